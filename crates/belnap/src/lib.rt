@@ -1,0 +1,55 @@
+// Belnap's four values: 0 no decision, 1 yes, 2 no, 3 conflict. Bit 0 is evidence for, bit 1 evidence against. The six two-place
+// operators are tables of constants; what they mean is said by the bit rules of specs/, and callers see those rules alone.
+ghost use mathlib.Core.Path.{_≡_};
+ghost use Prim.Native.Nat.{_<_};
+ghost use Rattle.belnap.specs.Belnap.{grants, notOf, gatherOf, operateOf};
+
+// Each a table of p (down) and q (across).
+const AND: [[u8; 4]; 4] = [[0, 0, 2, 2], [0, 1, 2, 3], [2, 2, 2, 2], [2, 3, 2, 3]];
+
+const OR: [[u8; 4]; 4] = [[0, 1, 0, 1], [1, 1, 1, 1], [0, 1, 2, 3], [1, 1, 3, 3]];
+
+const CONSENSUS: [[u8; 4]; 4] = [[0, 0, 0, 0], [0, 1, 0, 1], [0, 0, 2, 2], [0, 1, 2, 3]];
+
+const GATHER: [[u8; 4]; 4] = [[0, 1, 2, 3], [1, 1, 3, 3], [2, 3, 2, 3], [3, 3, 3, 3]];
+
+const IMPLIES: [[u8; 4]; 4] = [[0, 1, 2, 3], [0, 1, 2, 3], [1, 1, 1, 1], [1, 1, 1, 1]];
+
+const BEFORE: [[u8; 4]; 4] = [[0, 1, 2, 3], [1, 1, 1, 1], [2, 2, 2, 2], [3, 3, 3, 3]];
+
+// The six tables in the order of the node kinds 19 to 24.
+const TABLES: [[[u8; 4]; 4]; 6] = [AND, OR, CONSENSUS, GATHER, IMPLIES, BEFORE];
+
+// The operator numbered op, from 0, of two values.
+pub fn operate(op: u8, p: u8, q: u8) -> u8
+    requires { ⌜ (op < 6) × (p < 4) × (q < 4) ⌝ }
+    ensures { λ r. ⌜ (r ≡ operateOf op p q) × (r < 4) ⌝ }
+{
+    let k = op as usize;
+    let i = p as usize;
+    let j = q as usize;
+    TABLES[k][i][j]
+}
+
+// Gather keeps the bits that either has.
+pub fn gather(p: u8, q: u8) -> u8
+    requires { ⌜ (p < 4) × (q < 4) ⌝ }
+    ensures { λ r. ⌜ (r ≡ gatherOf p q) × (r < 4) ⌝ }
+{
+    operate(3, p, q)
+}
+
+// Not swaps the two bits.
+pub fn not(p: u8) -> u8
+    requires { ⌜ p < 4 ⌝ }
+    ensures { λ r. ⌜ (r ≡ notOf p) × (r < 4) ⌝ }
+{
+    p % 2 * 2 + p / 2
+}
+
+// A value grants exactly if it is 0 or 1.
+pub fn grants(p: u8) -> bool
+    ensures { λ r. ⌜ r ≡ grants p ⌝ }
+{
+    p < 2
+}

@@ -1,0 +1,7 @@
+pub mod Truth
+pub mod First
+pub mod Lists
+pub mod Numbers
+pub mod Splices
+pub mod Shifts
+pub mod Tables

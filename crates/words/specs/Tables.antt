@@ -1,0 +1,26 @@
+-- Tables of records of one width: a record is read at its place in the bytes, and written as bytes. Assumes nothing.
+use Prim.Native.Nat.{ℕ, zero, suc, _*_, _/_}
+use mathlib.Core.Bool.{Bool}
+use mathlib.Core.List.{List, [], _∷_, _++_}
+use lib.Dec.{ltb}
+use lib.ListN.{length, getD}
+use Rattle.words.specs.Lists.{firstBad}
+
+module _ {A : Type 0} where
+  -- the list of a rule's values at 0, 1, .. below n
+  abbrev pub build : ℕ → (ℕ → A) → List A
+  build zero f = []
+  build (suc n) f = f zero ∷ build n (λ k. f (suc k))
+
+  -- the records of a body: `read s i` is the record that starts at byte i of s, and each takes w bytes
+  unfoldable pub tableOf : (List ℕ → ℕ → A) → ℕ → List ℕ → List A
+  tableOf read w s = build (length s / w) (λ k. read s (w * k))
+
+  -- the bytes of each record, one after the other
+  unfoldable pub encodeAll : (A → List ℕ) → List A → List ℕ
+  encodeAll enc [] = []
+  encodeAll enc (x ∷ xs) = enc x ++ encodeAll enc xs
+
+-- how many of the first n records of width w begin with a byte below `bound`, where these bytes never fall: the number of the first that does not
+abbrev pub countBelow : List ℕ → ℕ → ℕ → ℕ → ℕ
+countBelow s w n bound = firstBad (λ k. ltb (getD s (w * k) 0) bound) n

@@ -1,0 +1,163 @@
+// Numbers in lent bytes, little-endian; stretches of bytes copied, cleared, moved, put in and taken out; and the search in a table
+// whose records stand in the order of their first byte. Readers ask for their place and test nothing; what a function leaves of lent
+// bytes is one list in its contract.
+ghost use mathlib.Core.Path.{_≡_};
+ghost use Prim.Native.Nat.{ℕ, _+_, _-_, _*_, _^_, _≤_, _<_};
+ghost use lib.ListN.{length, getD};
+ghost use Rattle.words.specs.Bytes.{u16At, u32At, u16Bytes, blank, allZero, padded, splice, raised, lowered, inserted, removed};
+ghost use Rattle.words.specs.Tables.{countBelow};
+
+// What a search answers: the number that it found, or nothing.
+pub enum Found {
+    At(usize),
+    Nothing,
+}
+
+// A byte as a number of 16 bits.
+fn wide(x: u8) -> u16
+    ensures { λ r. ⌜ (r ≡ x) × (r < 256) ⌝ }
+{
+    x as u16
+}
+
+// The u16 at byte `at`.
+pub fn word(s: &[u8], at: usize) -> u16
+    requires { ⌜ at + 1 < length (now s) ⌝ }
+    ensures { λ r. ⌜ r ≡ u16At (now (s .entry)) at ⌝ }
+{
+    wide(s[at]) + 256 * wide(s[at + 1])
+}
+
+// The same as a size.
+pub fn size_at(s: &[u8], at: usize) -> usize
+    requires { ⌜ at + 1 < length (now s) ⌝ }
+    ensures { λ r. ⌜ (r ≡ u16At (now (s .entry)) at) × (r < 65536) ⌝ }
+{
+    word(s, at) as usize
+}
+
+// The u32 at byte `at`, as a size.
+pub fn long_at(s: &[u8], at: usize) -> usize
+    requires { ⌜ at + 3 < length (now s) ⌝ }
+    ensures { λ r. ⌜ (r ≡ u32At (now (s .entry)) at) × (r < 2 ^ 32) ⌝ }
+{
+    size_at(s, at) + 65536 * size_at(s, at + 2)
+}
+
+// The two bytes of a u16.
+pub fn word_bytes(x: u16) -> [u8; 2]
+    ensures { λ r. ⌜ r ≡ u16Bytes x ⌝ }
+{
+    [(x % 256) as u8, (x / 256 % 256) as u8]
+}
+
+// The bytes b from byte `at` on, in the place of what was there.
+pub fn put(mem: &mut [u8], at: usize, b: &[u8])
+    requires { ⌜ at + length (now b) ≤ length (now mem) ⌝ }
+    ensures { λ _. ⌜ now (mem .exit) ≡ splice (now (mem .entry)) at (now (b .entry)) ⌝ }
+{
+    let mut j = 0;
+    while j < b.len() {
+        mem[at + j] = b[j];
+        j += 1;
+    }
+}
+
+// Zeros from byte `from` up to byte `to`.
+pub fn clear(mem: &mut [u8], from: usize, to: usize)
+    requires { ⌜ (from ≤ to) × (to ≤ length (now mem)) ⌝ }
+    ensures { λ _. ⌜ now (mem .exit) ≡ splice (now (mem .entry)) from (blank (to - from)) ⌝ }
+{
+    let n = to - from;
+    let mut j = 0;
+    while j < n {
+        mem[from + j] = 0;
+        j += 1;
+    }
+}
+
+// Whether every byte is 0. There is no early exit, so that the loop takes many bytes at a time.
+pub fn zeros(s: &[u8]) -> bool
+    ensures { λ r. ⌜ r ≡ allZero (now (s .entry)) ⌝ }
+{
+    let mut ok = true;
+    let mut j = 0;
+    while j < s.len() {
+        ok = ok & (s[j] == 0);
+        j += 1;
+    }
+    ok
+}
+
+// The bytes b, then zeros to the end.
+pub fn fill(mem: &mut [u8], b: &[u8])
+    requires { ⌜ length (now b) ≤ length (now mem) ⌝ }
+    ensures { λ _. ⌜ now (mem .exit) ≡ padded (length (now (mem .entry))) (now (b .entry)) ⌝ }
+{
+    put(mem, 0, b);
+    let n = mem.len();
+    clear(mem, b.len(), n);
+}
+
+// The bytes at..end go up by `by` places.
+fn shift_up(mem: &mut [u8], at: usize, end: usize, by: usize)
+    requires { ⌜ (at ≤ end) × (end + by ≤ length (now mem)) ⌝ }
+    ensures { λ _. ⌜ now (mem .exit) ≡ raised by at end (now (mem .entry)) ⌝ }
+{
+    let to = at + by;
+    let mut k = end - at;
+    while 0 < k {
+        k -= 1;
+        mem[to + k] = mem[at + k];
+    }
+}
+
+// The bytes at + by..end go down by `by` places.
+fn shift_down(mem: &mut [u8], at: usize, end: usize, by: usize)
+    requires { ⌜ (at + by ≤ end) × (end ≤ length (now mem)) ⌝ }
+    ensures { λ _. ⌜ now (mem .exit) ≡ lowered by at end (now (mem .entry)) ⌝ }
+{
+    let from = at + by;
+    let n = end - from;
+    let mut j = 0;
+    while j < n {
+        mem[at + j] = mem[from + j];
+        j += 1;
+    }
+}
+
+// Puts b in at byte `at`, and the bytes at..end after it.
+pub fn insert(mem: &mut [u8], at: usize, end: usize, b: &[u8])
+    requires { ⌜ (at ≤ end) × (end + length (now b) ≤ length (now mem)) ⌝ }
+    ensures { λ _. ⌜ now (mem .exit) ≡ inserted (now (b .entry)) at end (now (mem .entry)) ⌝ }
+{
+    shift_up(mem, at, end, b.len());
+    put(mem, at, b);
+}
+
+// Takes the w bytes from byte `at` on out: those up to `end` move down, and zeros come after them.
+pub fn remove(mem: &mut [u8], at: usize, end: usize, w: usize)
+    requires { ⌜ (at + w ≤ end) × (end ≤ length (now mem)) ⌝ }
+    ensures { λ _. ⌜ now (mem .exit) ≡ removed w at end (now (mem .entry)) ⌝ }
+{
+    shift_down(mem, at, end, w);
+    clear(mem, end - w, end);
+}
+
+// How many of the first n records of width w begin with a byte below `bound`, where these bytes never fall: found by halving.
+pub fn count_below(s: &[u8], w: usize, n: usize, bound: usize) -> usize
+    requires { ⌜ (w * n ≤ length (now s)) × (0 < w) × ((i j : ℕ) → i ≤ j → j < n → getD (now s) (w * i) 0 ≤ getD (now s) (w * j) 0) ⌝ }
+    ensures { λ r. ⌜ (r ≡ countBelow (now (s .entry)) w n bound) × (r ≤ n) ⌝ }
+{
+    let mut low = 0;
+    let mut high = n;
+    while low < high {
+        let middle = low + (high - low) / 2;
+        if (s[w * middle] as usize) < bound {
+            low = middle + 1;
+        } else {
+            high = middle;
+        }
+    }
+    low
+}
