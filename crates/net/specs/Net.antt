@@ -118,7 +118,10 @@ isAny x = eqb (x .tag) 3
 abbrev pub isBinder : Operand → Bool
 isBinder x = eqb (x .tag) 4
 
--- ---- the fields of an action, those of a row
+-- ---- the parts of an aspect's cut, the fields of an action, those of a row
+abbrev pub cutOf : Aspect → List Operand
+cutOf x = x .source ∷ x .target ∷ take (x .count) (x .fields)
+
 abbrev pub fieldsOf : Action → List Operand
 fieldsOf x = take (x .count) (x .fields)
 

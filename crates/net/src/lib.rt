@@ -4,6 +4,9 @@ ghost use mathlib.Core.Path.{_≡_};
 ghost use Prim.Native.Nat.{_+_, _≤_};
 ghost use lib.ListN.{length};
 ghost use Rattle.net.specs.Records.{fourWords, eightWords, readOperand, fourOperands, readSite, readNode, readAspect, readAction, readRow, siteBytes, rowBytes};
+ghost use Rattle.net.specs.Net.{names, placeOf};
+ghost use Rattle.net.specs.Image.{sitesIn};
+use words::Found;
 use words::word;
 
 // Tag 0 a name, 1 a variable, 2 binds a variable, 3 any, 4 binder.
@@ -190,6 +193,21 @@ pub fn row_at(s: &[u8], at: usize) -> Row
         count: s[at + 1],
         fields: four_words(s, at + 2),
     }
+}
+
+// The number of the site that has a name.
+pub fn place_of(sites: &[u8], wanted: u16) -> Found
+    ensures { λ r. ⌜ r ≡ placeOf (names (sitesIn (now (sites .entry)))) wanted ⌝ }
+{
+    let n = sites.len() / 32;
+    let mut k = 0;
+    while k < n {
+        if word(sites, 32 * k) == wanted {
+            return Found::At(k);
+        }
+        k += 1;
+    }
+    Found::Nothing
 }
 
 // The 32 bytes of a site's record.

@@ -5,3 +5,4 @@ pub mod Numbers
 pub mod Splices
 pub mod Shifts
 pub mod Tables
+pub mod Groups

@@ -1,0 +1,122 @@
+-- In a list that is in the order of a key, the elements of one key stand together: those with smaller keys come before them, those with
+-- larger keys after. So the elements of a key are a stretch of the list, between two places that a search by halving finds. Assumes nothing.
+use mathlib.Core.Path.{_≡_, refl, sym, ap, _∙_}
+use mathlib.Core.Bool.{Bool, true, false, cond}
+use mathlib.Core.List.{List, [], _∷_, _++_, append-nil}
+use mathlib.Core.Logic.{⊎-elim}
+use Prim.Native.Nat.{ℕ, zero, suc, _+_, _-_, _≤_, _<_}
+use native.Mathlib.Nat.{le-refl, le-of-suc-le-suc, not-suc-le-zero, eq-or-lt-of-le}
+use native.Mathlib.Decide.{le-ind}
+use native.Mathlib.Omega.{arith}
+use lib.Dec.{ltb, eqb}
+use lib.ListN.{length, getD, take, drop, length-drop, take-append-drop}
+use lib.Seq.{getD-take, getD-drop, length-take-le, drop-drop}
+use borrow.Author.Tests.{ltb-true, ltb-false, eq-eqb, ne-eqb}
+use Rattle.words.specs.Lists.{firstBad, count, those}
+use Rattle.words.proofs.First.{first-le, first-below, first-at}
+
+module _ {A : Type 0} (p : A → Bool) where
+  pub those-append : (a b : List A) → those p (a ++ b) ≡ those p a ++ those p b
+  those-append [] b = refl
+  those-append (x ∷ a) b = pick (p x) (those-append a b)
+    where
+      pick : (c : Bool) → those p (a ++ b) ≡ those p a ++ those p b
+          → cond c (x ∷ those p (a ++ b)) (those p (a ++ b)) ≡ cond c (x ∷ those p a) (those p a) ++ those p b
+      pick true e = ap (λ (l : List A). x ∷ l) e
+      pick false e = e
+
+  -- none, and all of them
+  pub those-none : (l : List A) (d : A) → ((k : ℕ) → k < length l → p (getD l k d) ≡ false) → those p l ≡ []
+  those-none [] d f = refl
+  those-none (x ∷ l) d f = rw (f 0 (omega arith)) (those-none l d (λ k h. f (suc k) (omega arith)))
+
+  pub those-all : (l : List A) (d : A) → ((k : ℕ) → k < length l → p (getD l k d) ≡ true) → those p l ≡ l
+  those-all [] d f = refl
+  those-all (x ∷ l) d f = rw (f 0 (omega arith)) (ap (λ (m : List A). x ∷ m) (those-all l d (λ k h. f (suc k) (omega arith))))
+
+  pub count-those : (l : List A) → count p l ≡ length (those p l)
+  count-those [] = refl
+  count-those (x ∷ l) = pick (p x) (count-those l)
+    where
+      pick : (c : Bool) → count p l ≡ length (those p l) → cond c 1 0 + count p l ≡ length (cond c (x ∷ those p l) (those p l))
+      pick true e = omega (arith, e)
+      pick false e = omega (arith, e)
+
+module _ {A : Type 0} (f : A → ℕ) (d : A) where
+  -- in the order of the key
+  abbrev pub Sorted : List A → Type 0
+  Sorted l = (i j : ℕ) → i ≤ j → j < length l → f (getD l i d) ≤ f (getD l j d)
+
+  -- from neighbours
+  pub sorted-of : (l : List A) → ((k : ℕ) → suc k < length l → f (getD l k d) ≤ f (getD l (suc k) d)) → Sorted l
+  sorted-of l g i j h b =
+      le-ind (λ (m : ℕ). m < length l → f (getD l i d) ≤ f (getD l m d)) (λ z. le-refl (f (getD l i d)))
+      (λ m q ih z. let a = ih (omega arith) in let c = g m z in omega arith) j h b
+
+  -- how many have a smaller key
+  abbrev pub below : List A → ℕ → ℕ
+  below l t = firstBad (λ k. ltb (f (getD l k d)) t) (length l)
+
+  module _ (l : List A) (order : Sorted l) (t : ℕ) where
+    abbrev low : ℕ
+    low = below l t
+
+    abbrev high : ℕ
+    high = below l (suc t)
+
+    smaller : (k : ℕ) → k < low → f (getD l k d) < t
+    smaller k h = ltb-true (f (getD l k d)) t (first-below (λ j. ltb (f (getD l j d)) t) (length l) k h)
+
+    -- from `low` on the keys are not smaller; from `high` on they are larger
+    larger : (u k : ℕ) → below l u ≤ k → k < length l → u ≤ f (getD l k d)
+    larger u k h b =
+        let m = below l u in
+        let e = ltb-false (f (getD l m d)) u (first-at (λ j. ltb (f (getD l j d)) u) (length l) (omega arith)) in
+        omega (arith, order m k h b)
+
+    pub low-high : low ≤ high
+    low-high = pick (ltb high low) refl
+      where
+        pick : (b : Bool) → ltb high low ≡ b → low ≤ high
+        pick true e =
+            let h = ltb-true high low e in
+            let n = first-le (λ j. ltb (f (getD l j d)) t) (length l) in
+            let z : ⊥ = omega (arith, smaller high h, larger (suc t) high (le-refl high) (omega arith)) in absurd z
+        pick false e = ltb-false high low e
+
+    pub high-length : high ≤ length l
+    high-length = first-le (λ j. ltb (f (getD l j d)) (suc t)) (length l)
+
+    -- the elements with the key t stand between the two places
+    pub group : those (λ x. eqb (f x) t) l ≡ take (high - low) (drop low l)
+    group =
+        let q : A → Bool = λ x. eqb (f x) t in
+        let n = high - low in
+        let m = drop low l in
+        let b = high-length in
+        let o = low-high in
+        let lm : length m ≡ length l - low = length-drop low l in
+        let front : those q (take low l) ≡ [] =
+        those-none q (take low l) d (λ k h.
+        let k₁ : k < low = omega (arith, length-take-le low l (omega arith)) in
+        rw (getD-take low l k d k₁) (ne-eqb (f (getD l k d)) t (λ e. omega (arith, smaller k k₁)))) in
+        let middle : those q (take n m) ≡ take n m =
+        those-all q (take n m) d (λ k h.
+        let k₁ : k < n = omega (arith, length-take-le n m (omega arith)) in
+        rw (getD-take n m k d k₁, getD-drop low l k d)
+        (eq-eqb (f (getD l (low + k) d)) t
+        (omega (arith, larger t (low + k) (omega arith) (omega arith), ltb-true (f (getD l (low + k) d)) (suc t) (first-below (λ j. ltb (f (getD l j d)) (suc t)) (length l) (low + k) (omega arith)))))) in
+        let back : those q (drop n m) ≡ [] =
+        those-none q (drop n m) d (λ k h.
+        let k₁ : low + (n + k) < length l = omega (arith, length-drop n m) in
+        rw (getD-drop n m k d, getD-drop low l (n + k) d) (ne-eqb (f (getD l (low + (n + k)) d)) t (λ e. omega (arith, larger (suc t) (low + (n + k)) (omega arith) k₁)))) in
+        ap (those q) (sym (take-append-drop low l) ∙ ap (λ (r : List A). take low l ++ r) (sym (take-append-drop n m)))
+        ∙ those-append q (take low l) (take n m ++ drop n m)
+        ∙ rw (front, those-append q (take n m) (drop n m), middle, back) (append-nil (take n m))
+
+    -- and so many they are
+    pub group-count : count (λ x. eqb (f x) t) l ≡ high - low
+    group-count =
+        count-those (λ x. eqb (f x) t) l
+        ∙ ap length group
+        ∙ length-take-le (high - low) (drop low l) (let o = low-high in let b = high-length in omega (arith, length-drop low l))
