@@ -7,12 +7,13 @@ use lib.ListN.{length, getD, take, set, replicate}
 use Rattle.level.specs.Level.{dominates}
 use Rattle.belnap.specs.Belnap.{grants, notOf, gatherOf, operateOf}
 use Rattle.words.specs.Lists.{fill, some, fitAll}
-use Rattle.net.specs.Net.{State, Rules, siteAt, nodeAt, names, placeOf, isAt, isName, isVariable, isBinding, isAny, isBinder, fieldsOf, valuesOf, cutOf, house}
+use Rattle.net.specs.Net.{Rules, siteAt, nodeAt, names, placeOf, isAt, isName, isVariable, isBinding, isAny, isBinder, fieldsOf, valuesOf, cutOf, house}
 use Rattle.net.specs.declared.Operand.{Operand}
 use Rattle.net.specs.declared.Site.{Site}
 use Rattle.net.specs.declared.Node.{Node}
 use Rattle.net.specs.declared.Aspect.{Aspect}
 use Rattle.net.specs.declared.Action.{Action}
+use Rattle.net.specs.declared.Row.{Row}
 
 abbrev pub name : ℕ → Operand
 name v = record { tag = 0; value = v }
@@ -26,6 +27,9 @@ pub record Act : Type 0 where
 -- ---- terms: "0 S, 1 C, 2 O, 3 HS of the source; 4 O, 5 HO, 6 S, 7 C of the target"
 abbrev pub termsOf : Site → Site → List ℕ
 termsOf x y = x .s ∷ x .c ∷ x .o ∷ x .hs ∷ y .o ∷ y .ho ∷ y .s ∷ y .c ∷ []
+
+abbrev pub termsIn : List Site → Act → List ℕ
+termsIn sites act = termsOf (siteAt sites (act .source)) (siteAt sites (act .target))
 
 -- ---- the mandatory rules: eight rows of capability, left term, right term, "each giving 2 where the left does not dominate the right, else 0"
 pub record Mandatory : Type 0 where
@@ -70,15 +74,15 @@ patternFits p x =
     (isBinder p && isBinding x)))
 
 -- the action's parts as a cut sees them
-abbrev pub facing : State → Act → List Operand
-facing s act = name (siteAt (s .sites) (act .source) .name) ∷ name (siteAt (s .sites) (act .target) .name) ∷ fieldsOf (act .action)
+abbrev pub facing : List Site → Act → List Operand
+facing sites act = name (siteAt sites (act .source) .name) ∷ name (siteAt sites (act .target) .name) ∷ fieldsOf (act .action)
 
 -- "It traps an action of the same capability and field count whose parts all fit"
-unfoldable pub traps : State → Act → Aspect → Bool
-traps s act x =
+unfoldable pub traps : List Site → Act → Aspect → Bool
+traps sites act x =
     eqb (x .capability) (act .action .capability)
     && (eqb (x .count) (act .action .count)
-    && fitAll patternFits (cutOf x) (facing s act))
+    && fitAll patternFits (cutOf x) (facing sites act))
 
 -- what the cut's variables take; the others are unset
 abbrev pub taking : List Operand → List Operand → List ℕ → List ℕ
@@ -86,12 +90,13 @@ taking [] l vars = vars
 taking (p ∷ ps) [] vars = vars
 taking (p ∷ ps) (x ∷ l) vars = taking ps l (cond (isVariable p) (set vars (p .value) (x .value)) vars)
 
-abbrev pub taken : State → Act → Aspect → List ℕ
-taken s act x = taking (cutOf x) (facing s act) (replicate 8 0)
+unfoldable pub taken : List Site → Act → Aspect → List ℕ
+taken sites act x = taking (cutOf x) (facing sites act) (replicate 8 0)
 
 -- ---- nodes: all that a node's value depends on but the node and the lower values
 pub record Ask : Type 0 where
-  pub state : State
+  pub sites : List Site
+  pub rows : List Row
   pub terms : List ℕ
   pub vars : List ℕ
 
@@ -107,9 +112,9 @@ known v w = not (eqb v 0) && eqb v w
 unfoldable pub testOf : Ask → Node → Bool
 testOf q x =
     some (λ r.
-    isAt (r .owner) (placeOf (names (q .state .sites)) (x .a))
+    isAt (r .owner) (placeOf (names (q .sites)) (x .a))
     && (eqb (r .count) (x .count)
-    && fitAll (λ p v. isAny p || known (meant (q .vars) p) v) (take (x .count) (x .fields)) (valuesOf r))) (q .state .rows)
+    && fitAll (λ p v. isAny p || known (meant (q .vars) p) v) (take (x .count) (x .fields)) (valuesOf r))) (q .rows)
 
 -- A value tells its sort: a condition's is 0 or 1, a recommendation's is 4 more than its code. Of a value of the other sort, and of none,
 -- `yes` is false and `advice` is 0: an accepted table has no such child.
@@ -150,22 +155,22 @@ rowOf q nodes = fill (λ k row. valueOf q (nodeAt nodes k) row)
 abbrev pub valueAt : Ask → List Node → ℕ → ℕ
 valueAt q nodes k = getD (rowOf q nodes (length nodes)) k 0
 
--- ---- policies
-abbrev pub askOf : State → Act → Aspect → Ask
-askOf s act x =
-    record { state = s; terms = termsOf (siteAt (s .sites) (act .source)) (siteAt (s .sites) (act .target)); vars = taken s act x }
+-- ---- policies: what the rules of the house say of an action, by the sites and the rows as they are
+abbrev pub askOf : List Site → List Row → Act → Aspect → Ask
+askOf sites rows act x = record { sites = sites; rows = rows; terms = termsIn sites act; vars = taken sites act x }
 
 -- "Trapped with its condition true it gives its recommendation, else 0."
-unfoldable pub gives : List Node → State → Act → Aspect → ℕ
-gives nodes s act x =
-    cond (traps s act x && yes (valueAt (askOf s act x) nodes (x .condition))) (advice (valueAt (askOf s act x) nodes (x .recommendation))) 0
+unfoldable pub gives : List Node → List Site → List Row → Act → Aspect → ℕ
+gives nodes sites rows act x =
+    let q = askOf sites rows act x in
+    cond (traps sites act x && yes (valueAt q nodes (x .condition))) (advice (valueAt q nodes (x .recommendation))) 0
 
 -- "A site's policy gathers its aspects; none gives 0."
-unfoldable pub policy : List Node → State → Act → ℕ → List Aspect → ℕ
-policy nodes s act site l = gatherAll (map (gives nodes s act) (house site l))
+unfoldable pub policy : List Node → List Site → List Row → Act → ℕ → List Aspect → ℕ
+policy nodes sites rows act site l = gatherAll (map (gives nodes sites rows act) (house site l))
 
 -- "Gather the mandatory rules, the source's policy and the target's."
-unfoldable pub judge : Rules → State → Act → ℕ
-judge r s act =
-    gatherOf (mandatory (act .action .capability) (termsOf (siteAt (s .sites) (act .source)) (siteAt (s .sites) (act .target))))
-    (gatherOf (policy (r .nodes) s act (act .source) (r .aspects)) (policy (r .nodes) s act (act .target) (r .aspects)))
+unfoldable pub judge : Rules → List Site → List Row → Act → ℕ
+judge r sites rows act =
+    gatherOf (mandatory (act .action .capability) (termsIn sites act))
+    (gatherOf (policy (r .nodes) sites rows act (act .source) (r .aspects)) (policy (r .nodes) sites rows act (act .target) (r .aspects)))
