@@ -15,9 +15,9 @@ use Rattle.stepping.specs.Step.{step, answers, final, numberOf}
 use Rattle.stepping.specs.declared.Answer.{Answer}
 use Rattle.stepping.specs.declared.Answer.the-variants.{NoNet}
 use Rattle.monitor.specs.declared.Saved.{Saved}
-use Rattle.monitor.specs.declared.Saved.the-variants.{Whole, NothingHeld, NoRoom}
+use Rattle.monitor.specs.declared.Saved.the-variants.{Whole, Room, NoNet as SavedNoNet}
 use Rattle.monitor.specs.declared.Ran.{Ran}
-use Rattle.monitor.specs.declared.Ran.the-variants.{Through, TooLong, Netless}
+use Rattle.monitor.specs.declared.Ran.the-variants.{Through, Long, NoNet as RanNoNet}
 
 -- ---- load: "19 SMALL (memory not 65,536 bytes)", then check's; accepted, memory is the image and then zeros
 unfoldable pub loadAnswer : List ℕ → List ℕ → Verdict
@@ -54,16 +54,16 @@ memoryWith r s = memoryOf (record { state = s; rules = r })
 -- ---- save: "6 NONET, 20 ROOM (output too short), 0 with the length; bytes beyond unchanged"
 abbrev pub savedNumber : Saved → ℕ
 savedNumber (Whole n) = 0
-savedNumber NothingHeld = 6
-savedNumber NoRoom = 20
+savedNumber SavedNoNet = 6
+savedNumber Room = 20
 
 abbrev pub savedLength : Saved → ℕ
 savedLength (Whole n) = n
-savedLength NothingHeld = 0
-savedLength NoRoom = 0
+savedLength SavedNoNet = 0
+savedLength Room = 0
 
 unfoldable pub saveAnswer : List ℕ → ℕ → Saved
-saveAnswer m room = cond (holdsNet m) (cond (ltb room (endIn m)) NoRoom (Whole (endIn m))) NothingHeld
+saveAnswer m room = cond (holdsNet m) (cond (ltb room (endIn m)) Room (Whole (endIn m))) SavedNoNet
 
 unfoldable pub saveOutput : List ℕ → List ℕ → List ℕ
 saveOutput m out = cond (eqb (savedNumber (saveAnswer m (length out))) 0) (splice out 0 (imageIn m)) out
@@ -78,14 +78,14 @@ stepMemory m i = cond (holdsNet m) (memoryWith (rulesHeld m) (step (rulesHeld m)
 -- ---- run: "7 LONG (over 4,096 steps, or fewer answer bytes than steps), 6 NONET, else 0 and one step answer each, answer bytes beyond unchanged"
 abbrev pub ranNumber : Ran → ℕ
 ranNumber Through = 0
-ranNumber TooLong = 7
-ranNumber Netless = 6
+ranNumber Long = 7
+ranNumber RanNoNet = 6
 
 abbrev pub mostSteps : ℕ
 mostSteps = 4096
 
 unfoldable pub runAnswer : List ℕ → List ℕ → ℕ → Ran
-runAnswer m steps room = cond (ltb mostSteps (length steps) || ltb room (length steps)) TooLong (cond (holdsNet m) Through Netless)
+runAnswer m steps room = cond (ltb mostSteps (length steps) || ltb room (length steps)) Long (cond (holdsNet m) Through RanNoNet)
 
 -- every step, in order, on the net that memory holds
 unfoldable pub runMemory : List ℕ → List ℕ → ℕ → List ℕ

@@ -10,7 +10,7 @@ use Rattle.policy.specs.House.{Act, judge}
 use Rattle.stepping.specs.Step.{Out, answered, Start, stop, go, start, chosen, hasRoom, putAfter, gotAfter, isGranted}
 use Rattle.stepping.specs.declared.Answer.{Answer}
 use Rattle.stepping.specs.declared.Answer.the-variants.{Granted, Denied, NoMatch}
-use Rattle.monitor.specs.declared.Asked.{Asked}
+use Rattle.monitor.specs.declared.ask.Asked.{Asked}
 
 -- what asking finds: an answer that is no grant; a put; a take or read of row k
 pub data Plan : Type 0 where
@@ -27,7 +27,7 @@ allowed s act = cond (eqb (act .action .capability) 1) (put act) (getting act (c
 
 abbrev pub planned : Rules → State → Start → Plan
 planned r s (stop a) = refuse a
-planned r s (go act) = cond (grants (judge r s act)) (allowed s act) (refuse Denied)
+planned r s (go act) = cond (grants (judge r (s .sites) (s .rows) act)) (allowed s act) (refuse Denied)
 
 unfoldable pub planOf : Rules → State → ℕ → Plan
 planOf r s i = planned r s (start s i)

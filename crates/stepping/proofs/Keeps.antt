@@ -22,7 +22,8 @@ use Rattle.net.specs.Records.{siteFits, wordsFit, bytesFit, actionFits, operand
 use Rattle.stepping.proofs.Rows.{goodRow, Rows, rows-of, rows-fit, rows-ok, rows-few, rows-remove, rows-insert}
 use Rattle.stepping.proofs.Programs.{Standing, those-at, length-those, values, values-ok, values-fit, binds-next, bind-nothing, all-resolved-binds, bound-length, bound-all, bound-sets}
 use Rattle.words.proofs.Truth.{or-right}
-use Rattle.stepping.specs.Step.{Out, next, doing, resolved, change, advance, marked, loses, informed, boundBy, rowPut, placeFor, hits, fits, hasRoom, putAfter, gotAfter, step, final}
+use Rattle.stepping.specs.Step.{Out, next, doing, resolved, change, advance, marked, loses, informed, boundBy, rowPut, placeFor, hits, hasRoom, putAfter, gotAfter, step, final}
+use Rattle.policy.specs.Match.{fits}
 use Rattle.stepping.proofs.StepLaws.{Begun, chosen-hits, Does, nothing, puts, gets, does}
 use Rattle.net.specs.declared.Site.{Site}
 use Rattle.net.specs.declared.Action.{Action}
@@ -296,7 +297,7 @@ module _ (s : State) (r : Rules) (formed : T (wellFormed (record { state = s; ru
       assemble s r formed (change loses t l) (s .rows) (touched s l loses t (h .target) (λ x. refl) loses-fits (put-moved e)) rows-good
 
   -- ---- a take or a read of row k, which hits
-  module _ (k : ℕ) (l : k < length (s .rows)) (hit : T (hits (doing s i t) (rowAt (s .rows) k))) where
+  module _ (k : ℕ) (l : k < length (s .rows)) (hit : T (hits t (next s i) (rowAt (s .rows) k))) where
     abbrev met : Row
     met = rowAt (s .rows) k
 
@@ -350,7 +351,7 @@ module _ (r : Rules) where
   keeps s i o (puts t h e) f = put-keeps s r f i t h e (hasRoom s (doing s i t)) refl
   keeps s i o (gets t k h e c) f =
       let p = chosen-hits (doing s i t) (s .rows) k c in
-      got-keeps s r f i t h k (p .0) (is-T (hits (doing s i t) (rowAt (s .rows) k)) (p .1))
+      got-keeps s r f i t h k (p .0) (is-T (hits t (next s i) (rowAt (s .rows) k)) (p .1))
 
   -- a step keeps a net well formed, and so does a run
   pub step-keeps : (s : State) (i : ℕ) → T (wellFormed (record { state = s; rules = r })) → T (wellFormed (record { state = step r s i .after; rules = r }))

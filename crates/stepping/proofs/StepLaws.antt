@@ -17,7 +17,7 @@ use Rattle.words.proofs.Lists.{all-at, length-insert, length-remove}
 use Rattle.net.specs.Net.{State, Rules, siteAt, rowAt, program, names, placeOf}
 use Rattle.net.specs.Records.{noSite}
 use Rattle.policy.specs.House.{Act, judge}
-use Rattle.stepping.specs.Step.{Out, stop, go, next, doing, going, start, hits, chosen, placeFor, change, advance, marked, loses, informed, boundBy, rowPut, hasRoom, putAfter, gotAfter, got, finish, judged, from, step, answers, final, numberOf, isGranted, answered}
+use Rattle.stepping.specs.Step.{Out, stop, go, next, doing, going, start, hits, oldest, chosen, placeFor, change, advance, marked, loses, informed, boundBy, rowPut, hasRoom, putAfter, gotAfter, got, finish, judged, from, step, answers, final, numberOf, isGranted, answered}
 use Rattle.net.specs.declared.Site.{Site}
 use Rattle.net.specs.declared.Row.{Row}
 use Rattle.words.specs.declared.Found.{Found}
@@ -33,9 +33,9 @@ pub record Begun (s : State) (i t : ℕ) : Type 0 where
   pub target : t < length (s .sites)
 
 -- the chosen row is one, and hits
-pub chosen-hits : (a : Act) (l : List Row) (k : ℕ) → chosen a l ≡ At k → (k < length l) × (hits a (rowAt l k) ≡ true)
-unfolding chosen
-chosen-hits a l k e = found-at (λ j. hits a (rowAt l j)) (length l) k e
+pub chosen-hits : (a : Act) (l : List Row) (k : ℕ) → chosen a l ≡ At k → (k < length l) × (hits (a .target) (a .action) (rowAt l k) ≡ true)
+unfolding oldest
+chosen-hits a l k e = found-at (λ j. hits (a .target) (a .action) (rowAt l j)) (length l) k e
 
 -- ---- what a step does: nothing, a put, or a take or read of the chosen row
 pub data Does (s : State) (i : ℕ) : Out → Type 0 where
@@ -68,7 +68,7 @@ module _ (s : State) (i : ℕ) where
         source = ltb-true i (length (s .sites)) e;
         unfinished = ltb-true (siteAt (s .sites) i .position) (length (program i (s .actions))) f;
         target = rw (length-map (s .sites) (λ x. x .name)) at (found-at (λ k. eqb (getD (names (s .sites)) k 0) (next s i .target .value)) (length (names (s .sites))) t g .0);
-      }) (grants (judge r s (doing s i t)))
+      }) (grants (judge r (s .sites) (s .rows) (doing s i t)))
   does-from r true true Nothing e f g = nothing NoPlace refl
   does-from r true false p e f g = nothing Done refl
   does-from r false b₂ p e f g = nothing NoSite refl
@@ -90,9 +90,9 @@ not-granted-leaves r s i = leaves s i (step r s i) (does s i r)
 
 -- ---- a full store answers as a store with room does: the answer of a put is what the rules say of it, whatever the store holds
 pub put-answers : (r : Rules) (s : State) (i : ℕ) (act : Act) → start s i ≡ go act → act .action .capability ≡ 1
-    → step r s i .answer ≡ cond (grants (judge r s act)) Granted Denied
+    → step r s i .answer ≡ cond (grants (judge r (s .sites) (s .rows) act)) Granted Denied
 unfolding finish
-put-answers r s i act e p = rw e (go′ (grants (judge r s act)))
+put-answers r s i act e p = rw e (go′ (grants (judge r (s .sites) (s .rows) act)))
   where
     go′ : (b : Bool) → judged s act b .answer ≡ cond b Granted Denied
     go′ true = rw p
@@ -200,6 +200,6 @@ rows-accounted r s (i ∷ is) t =
 
 -- two nets that try one put, and judge it alike, answer alike: however full the store is in either
 pub full-answers : (r₁ r₂ : Rules) (s₁ s₂ : State) (i : ℕ) (act : Act) → start s₁ i ≡ go act → start s₂ i ≡ go act → act .action .capability ≡ 1
-    → judge r₁ s₁ act ≡ judge r₂ s₂ act → step r₁ s₁ i .answer ≡ step r₂ s₂ i .answer
+    → judge r₁ (s₁ .sites) (s₁ .rows) act ≡ judge r₂ (s₂ .sites) (s₂ .rows) act → step r₁ s₁ i .answer ≡ step r₂ s₂ i .answer
 full-answers r₁ r₂ s₁ s₂ i act p q c e =
     put-answers r₁ s₁ i act p c ∙ ap (λ (v : ℕ). cond (grants v) Granted Denied) e ∙ sym (put-answers r₂ s₂ i act q c)

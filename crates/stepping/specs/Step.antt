@@ -8,6 +8,7 @@ use Rattle.level.specs.Level.{join}
 use Rattle.belnap.specs.Belnap.{grants}
 use Rattle.words.specs.Lists.{firstBad, first, fitAll, insertAt, removeAt}
 use Rattle.net.specs.Net.{State, Rules, storeLimit, siteAt, actionAt, rowAt, program, held, names, placeOf, isBinding, isVariable, fieldsOf, valuesOf}
+use Rattle.policy.specs.Match.{fits, bound}
 use Rattle.policy.specs.House.{Act, name, judge}
 use Rattle.net.specs.declared.Operand.{Operand}
 use Rattle.net.specs.declared.Site.{Site}
@@ -80,16 +81,16 @@ start s i =
     (stop NoSite)
 
 -- ---- step 5: the row that take and read choose
--- "the same number of fields that equals every field not binding"
-abbrev pub fits : List Operand → List ℕ → Bool
-fits = fitAll (λ x v. isBinding x || eqb (x .value) v)
-
-abbrev pub hits : Act → Row → Bool
-hits act r = eqb (r .owner) (act .target) && fits (fieldsOf (act .action)) (valuesOf r)
+-- it stands at the target and fits the action's fields
+abbrev pub hits : ℕ → Action → Row → Bool
+hits target x r = eqb (r .owner) target && fits (fieldsOf x) (valuesOf r)
 
 -- the oldest that hits
-unfoldable pub chosen : Act → List Row → Found
-chosen act l = first (λ k. hits act (rowAt l k)) (length l)
+unfoldable pub oldest : ℕ → Action → List Row → Found
+oldest target x l = first (λ k. hits target x (rowAt l k)) (length l)
+
+abbrev pub chosen : Act → List Row → Found
+chosen act = oldest (act .target) (act .action)
 
 -- ---- step 6: what changes
 abbrev pub change : (Site → Site) → ℕ → List Site → List Site
@@ -110,12 +111,6 @@ loses x = record { name = x .name; s = x .s; c = x .c; o = x .o; hs = x .hs; ho 
 -- HS joined with what a reader meets: O and HO
 abbrev pub informed : ℕ → ℕ → Site → Site
 informed o ho x = record { name = x .name; s = x .s; c = x .c; o = x .o; hs = join (join (x .hs) o) ho; ho = x .ho; position = x .position; lost = x .lost; vars = x .vars }
-
--- the variables that the fields bind, bound to the row's values
-abbrev pub bound : List Operand → List ℕ → List ℕ → List ℕ
-bound [] l vars = vars
-bound (x ∷ xs) [] vars = vars
-bound (x ∷ xs) (v ∷ l) vars = bound xs l (cond (isBinding x) (set vars (x .value) v) vars)
 
 -- the row that a put adds
 abbrev pub rowPut : Act → Row
@@ -172,7 +167,7 @@ judged s act false = answered Denied s
 
 abbrev pub from : Rules → State → Start → Out
 from r s (stop a) = answered a s
-from r s (go act) = judged s act (grants (judge r s act))
+from r s (go act) = judged s act (grants (judge r (s .sites) (s .rows) act))
 
 abbrev pub step : Rules → State → ℕ → Out
 step r s i = from r s (start s i)
