@@ -12,7 +12,7 @@ ghost use Rattle.format.specs.Verdict.{verdictOf};
 ghost use Rattle.format.specs.declared.Verdict.the-variants.{Accepted};
 ghost use Rattle.policy.specs.House.{Act};
 ghost use Rattle.stepping.specs.Step.{resolved, resolvedAction, chosen, next};
-ghost use Rattle.monitor.specs.Plan.{planOf, planIn};
+ghost use Rattle.monitor.specs.Plan.{planIn};
 use net::Action;
 use net::Operand;
 use net::Site;

@@ -1,4 +1,5 @@
--- A step keeps a net well formed. Assumes nothing.
+-- A step keeps a net well formed: rows by facts of their owners under insertion and removal, sites by what a change of one record leaves, positions
+-- and variables in the one place where a site moves on. Assumes nothing.
 use mathlib.Core.Path.{_≡_, refl, sym, ap, _∙_, subst, subst₂}
 use mathlib.Core.Bool.{Bool, true, false, cond, not, _&&_, _||_, Bool·beq, or-comm}
 use mathlib.Core.List.{List, [], _∷_}
@@ -22,9 +23,9 @@ use Rattle.net.specs.Records.{siteFits, wordsFit, bytesFit, actionFits, operand
 use Rattle.stepping.proofs.Rows.{goodRow, Rows, rows-of, rows-fit, rows-ok, rows-few, rows-remove, rows-insert}
 use Rattle.stepping.proofs.Programs.{Standing, those-at, length-those, values, values-ok, values-fit, binds-next, bind-nothing, all-resolved-binds, bound-length, bound-all, bound-sets}
 use Rattle.words.proofs.Truth.{or-right}
-use Rattle.stepping.specs.Step.{Out, next, doing, resolved, change, advance, marked, loses, informed, boundBy, rowPut, placeFor, hits, hasRoom, putAfter, gotAfter, step, final}
+use Rattle.stepping.specs.Step.{Plan, asking, done, next, doing, resolved, change, advance, marked, loses, informed, boundBy, rowPut, placeFor, hits, hasRoom, putAfter, gotAfter, step, final}
 use Rattle.policy.specs.Match.{fits}
-use Rattle.stepping.proofs.StepLaws.{Begun, chosen-hits, Does, nothing, puts, gets, does}
+use Rattle.stepping.proofs.StepLaws.{Begun, chosen-hits, Plans, refuses, puts, gets, plans}
 use Rattle.net.specs.declared.Site.{Site}
 use Rattle.net.specs.declared.Action.{Action}
 use Rattle.net.specs.declared.Row.{Row}
@@ -198,7 +199,7 @@ module _ (s : State) (r : Rules) (formed : T (wellFormed (record { state = s; ru
   rows-good = rows-of n (s .rows) (shape-at s r formed 5) (rule-at s r formed 5)
 
   -- the position after the step is small
-  next-small : suc (spot .position) < 65536
+  pub next-small : suc (spot .position) < 65536
   next-small =
       omega (
         arith,
@@ -346,16 +347,16 @@ module _ (s : State) (r : Rules) (formed : T (wellFormed (record { state = s; ru
 
 -- ---- the promise
 module _ (r : Rules) where
-  keeps : (s : State) (i : ℕ) (o : Out) → Does s i o → T (wellFormed (record { state = s; rules = r })) → T (wellFormed (record { state = o .after; rules = r }))
-  keeps s i o (nothing a e) f = f
-  keeps s i o (puts t h e) f = put-keeps s r f i t h e (hasRoom s (doing s i t)) refl
-  keeps s i o (gets t k h e c) f =
-      let p = chosen-hits (doing s i t) (s .rows) k c in
-      got-keeps s r f i t h k (p .0) (is-T (hits t (next s i) (rowAt (s .rows) k)) (p .1))
+  keeps : (s : State) (i : ℕ) (p : Plan) → Plans s i p → T (wellFormed (record { state = s; rules = r })) → T (wellFormed (record { state = done s p .after; rules = r }))
+  keeps s i p (refuses a e) f = f
+  keeps s i p (puts t h e) f = put-keeps s r f i t h e (hasRoom s (doing s i t)) refl
+  keeps s i p (gets t k h e c) f =
+      let q = chosen-hits (doing s i t) (s .rows) k c in
+      got-keeps s r f i t h k (q .0) (is-T (hits t (next s i) (rowAt (s .rows) k)) (q .1))
 
   -- a step keeps a net well formed, and so does a run
   pub step-keeps : (s : State) (i : ℕ) → T (wellFormed (record { state = s; rules = r })) → T (wellFormed (record { state = step r s i .after; rules = r }))
-  step-keeps s i = keeps s i (step r s i) (does s i r)
+  step-keeps s i = keeps s i (asking r s i) (plans s i r)
 
   pub run-keeps : (s : State) (is : List ℕ) → T (wellFormed (record { state = s; rules = r })) → T (wellFormed (record { state = final r s is; rules = r }))
   run-keeps s [] f = f

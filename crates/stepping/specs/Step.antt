@@ -92,7 +92,33 @@ oldest target x l = first (λ k. hits target x (rowAt l k)) (length l)
 abbrev pub chosen : Act → List Row → Found
 chosen act = oldest (act .target) (act .action)
 
--- ---- step 6: what changes
+-- ---- asking: what the step will do, steps 1 to 5. An answer that is no grant; a put; a take or read of row k
+pub data Plan : Type 0 where
+  refuse : Answer → Plan
+  put : Act → Plan
+  get : Act → ℕ → Plan
+
+-- step 5: "None: NOMATCH."
+abbrev pub getting : Act → Found → Plan
+getting act (At k) = get act k
+getting act Nothing = refuse NoMatch
+
+abbrev pub allowed : State → Act → Plan
+allowed s act = cond (eqb (act .action .capability) 1) (put act) (getting act (chosen act (s .rows)))
+
+-- step 4: "If the value does not grant: DENIED."
+abbrev pub judged : State → Act → Bool → Plan
+judged s act true = allowed s act
+judged s act false = refuse Denied
+
+abbrev pub planned : Rules → State → Start → Plan
+planned r s (stop a) = refuse a
+planned r s (go act) = judged s act (grants (judge r (s .sites) (s .rows) act))
+
+unfoldable pub asking : Rules → State → ℕ → Plan
+asking r s i = planned r s (start s i)
+
+-- ---- doing: what changes, step 6
 abbrev pub change : (Site → Site) → ℕ → List Site → List Site
 change f i l = set l i (f (siteAt l i))
 
@@ -151,26 +177,15 @@ gotAfter s act k =
       rows = cond (eqb (act .action .capability) 2) (removeAt k (s .rows)) (s .rows);
     }
 
-abbrev pub got : State → Act → Found → Out
-got s act (At k) = answered Granted (gotAfter s act k)
-got s act Nothing = answered NoMatch s
+-- "GRANTED", or nothing changes
+abbrev pub done : State → Plan → Out
+done s (refuse a) = answered a s
+done s (put act) = answered Granted (putAfter s act (hasRoom s act))
+done s (get act k) = answered Granted (gotAfter s act k)
 
--- steps 5 and 6, of an action that the rules let pass
-unfoldable pub finish : State → Act → Out
-finish s act =
-    cond (eqb (act .action .capability) 1) (answered Granted (putAfter s act (hasRoom s act))) (got s act (chosen act (s .rows)))
-
--- ---- step 4: "If the value does not grant: DENIED."
-abbrev pub judged : State → Act → Bool → Out
-judged s act true = finish s act
-judged s act false = answered Denied s
-
-abbrev pub from : Rules → State → Start → Out
-from r s (stop a) = answered a s
-from r s (go act) = judged s act (grants (judge r (s .sites) (s .rows) act))
-
+-- ---- one step
 abbrev pub step : Rules → State → ℕ → Out
-step r s i = from r s (start s i)
+step r s i = done s (asking r s i)
 
 -- ---- a run: the answers, and the state at the end
 abbrev pub answers : Rules → State → List ℕ → List Answer
