@@ -77,10 +77,10 @@ got-accounts : (l : List Row) (k : ℕ) → k < length l → (b : Bool) → leng
 got-accounts l k q true = omega (arith, length-remove k l q)
 got-accounts l k q false = omega arith
 
-accounts : (s : State) (i : ℕ) (p : Plan) → Plans s i p → T (lostBelow (done s p .after)) → Accounted s i (done s p)
-accounts s i o (refuses a e) u = rw e
-accounts s i o (puts t h p) u = let g = put-accounts s i t h (hasRoom s (doing s i t)) u in rw p (omega (arith, rw p at g))
-accounts s i o (gets t k h p q) u =
+accounts : (r : Rules) (s : State) (i : ℕ) (p : Plan) → Plans r s i p → T (lostBelow (done s p .after)) → Accounted s i (done s p)
+accounts r s i o (refuses a e) u = rw e
+accounts r s i o (puts t h g p) u = let a = put-accounts s i t h (hasRoom s (doing s i t)) u in rw p (omega (arith, rw p at a))
+accounts r s i o (gets t k h g p q) u =
     let y = siteAt (s .sites) t in
     let vars = boundBy s (doing s i t) k in
     rw p (omega (
@@ -97,4 +97,4 @@ rows-accounted r s [] t = refl
 rows-accounted r s (i ∷ is) t =
     let o = step r s i in
     let u = both-T (lostBelow s) (stayBelow r (o .after) is) t .1 in
-    omega (arith, rows-accounted r (o .after) is u, accounts s i (asking r s i) (plans s i r) (stays-now r (o .after) is u))
+    omega (arith, rows-accounted r (o .after) is u, accounts r s i (asking r s i) (plans r s i) (stays-now r (o .after) is u))

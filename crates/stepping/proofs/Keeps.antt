@@ -347,16 +347,16 @@ module _ (s : State) (r : Rules) (formed : T (wellFormed (record { state = s; ru
 
 -- ---- the promise
 module _ (r : Rules) where
-  keeps : (s : State) (i : ℕ) (p : Plan) → Plans s i p → T (wellFormed (record { state = s; rules = r })) → T (wellFormed (record { state = done s p .after; rules = r }))
+  keeps : (s : State) (i : ℕ) (p : Plan) → Plans r s i p → T (wellFormed (record { state = s; rules = r })) → T (wellFormed (record { state = done s p .after; rules = r }))
   keeps s i p (refuses a e) f = f
-  keeps s i p (puts t h e) f = put-keeps s r f i t h e (hasRoom s (doing s i t)) refl
-  keeps s i p (gets t k h e c) f =
+  keeps s i p (puts t h g e) f = put-keeps s r f i t h e (hasRoom s (doing s i t)) refl
+  keeps s i p (gets t k h g e c) f =
       let q = chosen-hits (doing s i t) (s .rows) k c in
       got-keeps s r f i t h k (q .0) (is-T (hits t (next s i) (rowAt (s .rows) k)) (q .1))
 
   -- a step keeps a net well formed, and so does a run
   pub step-keeps : (s : State) (i : ℕ) → T (wellFormed (record { state = s; rules = r })) → T (wellFormed (record { state = step r s i .after; rules = r }))
-  step-keeps s i = keeps s i (asking r s i) (plans s i r)
+  step-keeps s i = keeps s i (asking r s i) (plans r s i)
 
   pub run-keeps : (s : State) (is : List ℕ) → T (wellFormed (record { state = s; rules = r })) → T (wellFormed (record { state = final r s is; rules = r }))
   run-keeps s [] f = f

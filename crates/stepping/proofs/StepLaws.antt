@@ -30,71 +30,84 @@ pub chosen-hits : (a : Act) (l : List Row) (k : ℕ) → chosen a l ≡ At k →
 unfolding oldest
 chosen-hits a l k e = found-at (λ j. hits (a .target) (a .action) (rowAt l j)) (length l) k e
 
--- ---- what a plan of site i is
-pub data Plans (s : State) (i : ℕ) : Plan → Type 0 where
-  refuses : (a : Answer) → isGranted a ≡ false → Plans s i (refuse a)
-  puts : (t : ℕ) → Begun s i t → next s i .capability ≡ 1 → Plans s i (put (doing s i t))
-  gets : (t k : ℕ) → Begun s i t → eqb (next s i .capability) 1 ≡ false → chosen (doing s i t) (s .rows) ≡ At k → Plans s i (get (doing s i t) k)
+-- ---- what a plan of site i is: the rules let a put, a take or a read pass, and a take or read has its row
+pub data Plans (r : Rules) (s : State) (i : ℕ) : Plan → Type 0 where
+  refuses : (a : Answer) → isGranted a ≡ false → Plans r s i (refuse a)
+  puts : (t : ℕ) → Begun s i t → grants (judge r (s .sites) (s .rows) (doing s i t)) ≡ true → next s i .capability ≡ 1 → Plans r s i (put (doing s i t))
+  gets : (t k : ℕ) → Begun s i t → grants (judge r (s .sites) (s .rows) (doing s i t)) ≡ true → eqb (next s i .capability) 1 ≡ false
+      → chosen (doing s i t) (s .rows) ≡ At k → Plans r s i (get (doing s i t) k)
 
-module _ (s : State) (i : ℕ) where
-  plans-getting : (t : ℕ) → Begun s i t → eqb (next s i .capability) 1 ≡ false → (c : Found) → chosen (doing s i t) (s .rows) ≡ c → Plans s i (getting (doing s i t) c)
-  plans-getting t h q (At k) e = gets t k h q e
-  plans-getting t h q Nothing e = refuses NoMatch refl
+module _ (r : Rules) (s : State) (i : ℕ) where
+  module _ (t : ℕ) (h : Begun s i t) (g : grants (judge r (s .sites) (s .rows) (doing s i t)) ≡ true) where
+    plans-getting : eqb (next s i .capability) 1 ≡ false → (c : Found) → chosen (doing s i t) (s .rows) ≡ c → Plans r s i (getting (doing s i t) c)
+    plans-getting q (At k) e = gets t k h g q e
+    plans-getting q Nothing e = refuses NoMatch refl
 
-  plans-allowed : (t : ℕ) → Begun s i t → (b : Bool) → eqb (next s i .capability) 1 ≡ b → Plans s i (cond b (put (doing s i t)) (getting (doing s i t) (chosen (doing s i t) (s .rows))))
-  plans-allowed t h true q = puts t h (eqb-true (next s i .capability) 1 q)
-  plans-allowed t h false q = plans-getting t h q (chosen (doing s i t) (s .rows)) refl
+    plans-allowed : (b : Bool) → eqb (next s i .capability) 1 ≡ b
+        → Plans r s i (cond b (put (doing s i t)) (getting (doing s i t) (chosen (doing s i t) (s .rows))))
+    plans-allowed true q = puts t h g (eqb-true (next s i .capability) 1 q)
+    plans-allowed false q = plans-getting q (chosen (doing s i t) (s .rows)) refl
 
-  plans-judged : (t : ℕ) → Begun s i t → (b : Bool) → Plans s i (judged s (doing s i t) b)
-  plans-judged t h true = plans-allowed t h (eqb (next s i .capability) 1) refl
-  plans-judged t h false = refuses Denied refl
+  plans-judged : (t : ℕ) → Begun s i t → (b : Bool) → grants (judge r (s .sites) (s .rows) (doing s i t)) ≡ b → Plans r s i (judged s (doing s i t) b)
+  plans-judged t h true g = plans-allowed t h g (eqb (next s i .capability) 1) refl
+  plans-judged t h false g = refuses Denied refl
 
-  plans-from : (r : Rules) (b₁ b₂ : Bool) (p : Found) → ltb i (length (s .sites)) ≡ b₁
+  plans-from : (b₁ b₂ : Bool) (p : Found) → ltb i (length (s .sites)) ≡ b₁
       → ltb (siteAt (s .sites) i .position) (length (program i (s .actions))) ≡ b₂ → placeOf (names (s .sites)) (next s i .target .value) ≡ p
-      → Plans s i (planned r s (cond b₁ (cond b₂ (going s i p) (stop Done)) (stop NoSite)))
+      → Plans r s i (planned r s (cond b₁ (cond b₂ (going s i p) (stop Done)) (stop NoSite)))
   unfolding placeOf
-  plans-from r true true (At t) e f g =
+  plans-from true true (At t) e f g =
       plans-judged t (record {
         source = ltb-true i (length (s .sites)) e;
         unfinished = ltb-true (siteAt (s .sites) i .position) (length (program i (s .actions))) f;
         target = rw (length-map (s .sites) (λ x. x .name)) at (found-at (λ k. eqb (getD (names (s .sites)) k 0) (next s i .target .value)) (length (names (s .sites))) t g .0);
-      }) (grants (judge r (s .sites) (s .rows) (doing s i t)))
-  plans-from r true true Nothing e f g = refuses NoPlace refl
-  plans-from r true false p e f g = refuses Done refl
-  plans-from r false b₂ p e f g = refuses NoSite refl
+      }) (grants (judge r (s .sites) (s .rows) (doing s i t))) refl
+  plans-from true true Nothing e f g = refuses NoPlace refl
+  plans-from true false p e f g = refuses Done refl
+  plans-from false b₂ p e f g = refuses NoSite refl
 
-  pub plans : (r : Rules) → Plans s i (asking r s i)
+  pub plans : Plans r s i (asking r s i)
   unfolding asking start
-  plans r =
-      plans-from r (ltb i (length (s .sites))) (ltb (siteAt (s .sites) i .position) (length (program i (s .actions))))
+  plans =
+      plans-from (ltb i (length (s .sites))) (ltb (siteAt (s .sites) i .position) (length (program i (s .actions))))
       (placeOf (names (s .sites)) (next s i .target .value)) refl refl refl
 
   -- a put is of the site's next action, at a site; so are a take and a read, of a row that is there
   pub record Puts (act : Act) : Type 0 where
     pub begun : Begun s i (act .target)
     pub tried : act ≡ doing s i (act .target)
+    pub granted : grants (judge r (s .sites) (s .rows) act) ≡ true
+    pub capability : act .action .capability ≡ 1
 
   pub record Gets (act : Act) (k : ℕ) : Type 0 where
     pub begun : Begun s i (act .target)
     pub tried : act ≡ doing s i (act .target)
+    pub granted : grants (judge r (s .sites) (s .rows) act) ≡ true
+    pub capability : eqb (act .action .capability) 1 ≡ false
     pub row : chosen act (s .rows) ≡ At k
 
-  pub put-plan : (p : Plan) → Plans s i p → (act : Act) → p ≡ put act → Puts act
+  put-plan : (p : Plan) → Plans r s i p → (act : Act) → p ≡ put act → Puts act
   put-plan p (refuses a n) act e = no (cc)
-  put-plan p (puts t h c) act e =
+  put-plan p (puts t h g c) act e =
       let q : act ≡ doing s i t = cc in
       let u : act .target ≡ t = ap (λ (x : Act). x .target) q in
-      record { begun = rw u h; tried = q ∙ ap (doing s i) (sym u) }
-  put-plan p (gets t k h q c) act e = no (cc)
+      record { begun = rw u h; tried = q ∙ ap (doing s i) (sym u); granted = rw q g; capability = rw q c }
+  put-plan p (gets t k h g q c) act e = no (cc)
 
-  pub get-plan : (p : Plan) → Plans s i p → (act : Act) (k : ℕ) → p ≡ get act k → Gets act k
+  get-plan : (p : Plan) → Plans r s i p → (act : Act) (k : ℕ) → p ≡ get act k → Gets act k
   get-plan p (refuses a n) act k e = no (cc)
-  get-plan p (puts t h c) act k e = no (cc)
-  get-plan p (gets t j h d c) act k e =
+  get-plan p (puts t h g c) act k e = no (cc)
+  get-plan p (gets t j h g d c) act k e =
       let q : act ≡ doing s i t = cc in
       let u : act .target ≡ t = ap (λ (x : Act). x .target) q in
       let v : j ≡ k = cc in
-      record { begun = rw u h; tried = q ∙ ap (doing s i) (sym u); row = rw (q, ← v) c }
+      record { begun = rw u h; tried = q ∙ ap (doing s i) (sym u); granted = rw q g; capability = rw q d; row = rw (q, ← v) c }
+
+  pub asked-put : (act : Act) → asking r s i ≡ put act → Puts act
+  asked-put = put-plan (asking r s i) plans
+
+  pub asked-get : (act : Act) (k : ℕ) → asking r s i ≡ get act k → Gets act k
+  asked-get = get-plan (asking r s i) plans
 
 -- ---- a step that is not granted leaves the net as it stood
 leaves : (s : State) (p : Plan) → isGranted (done s p .answer) ≡ false → done s p .after ≡ s
