@@ -1,0 +1,3 @@
+pub mod Four
+pub mod Places
+pub mod Mandatory

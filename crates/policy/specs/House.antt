@@ -14,6 +14,8 @@ use Rattle.net.specs.declared.Node.{Node}
 use Rattle.net.specs.declared.Aspect.{Aspect}
 use Rattle.net.specs.declared.Action.{Action}
 use Rattle.net.specs.declared.Row.{Row}
+use Rattle.policy.specs.Match.{through}
+use Rattle.policy.specs.declared.rules.Rule.{Rule}
 
 abbrev pub name : ℕ → Operand
 name v = record { tag = 0; value = v }
@@ -31,16 +33,11 @@ termsOf x y = x .s ∷ x .c ∷ x .o ∷ x .hs ∷ y .o ∷ y .ho ∷ y .s ∷ y
 abbrev pub termsIn : List Site → Act → List ℕ
 termsIn sites act = termsOf (siteAt sites (act .source)) (siteAt sites (act .target))
 
--- ---- the mandatory rules: eight rows of capability, left term, right term, "each giving 2 where the left does not dominate the right, else 0"
-pub record Mandatory : Type 0 where
-  pub for : ℕ
-  pub left : ℕ
-  pub right : ℕ
+-- ---- the mandatory rules: rows of capability, left term, right term, "each giving 2 where the left does not dominate the right, else 0"
+abbrev pub demands : ℕ → ℕ → ℕ → Rule
+demands c l r = record { capability = c; left = l; right = r }
 
-abbrev pub demands : ℕ → ℕ → ℕ → Mandatory
-demands f l r = record { for = f; left = l; right = r }
-
-abbrev pub mandatoryRules : List Mandatory
+abbrev pub mandatoryRules : List Rule
 mandatoryRules =
     demands 1 4 1
     ∷ demands 1 4 3
@@ -52,9 +49,9 @@ mandatoryRules =
     ∷ demands 3 0 5
     ∷ []
 
-abbrev pub ruleGives : ℕ → List ℕ → Mandatory → ℕ
-ruleGives capability terms m =
-    cond (eqb (m .for) capability) (cond (dominates (getD terms (m .left) 0) (getD terms (m .right) 0)) 0 2) 0
+abbrev pub ruleGives : ℕ → List ℕ → Rule → ℕ
+ruleGives capability terms x =
+    cond (eqb (x .capability) capability) (cond (dominates (getD terms (x .left) 0) (getD terms (x .right) 0)) 0 2) 0
 
 -- values gathered, none giving 0
 abbrev pub gatherAll : List ℕ → ℕ
@@ -86,9 +83,7 @@ traps sites act x =
 
 -- what the cut's variables take; the others are unset
 abbrev pub taking : List Operand → List Operand → List ℕ → List ℕ
-taking [] l vars = vars
-taking (p ∷ ps) [] vars = vars
-taking (p ∷ ps) (x ∷ l) vars = taking ps l (cond (isVariable p) (set vars (p .value) (x .value)) vars)
+taking = through (λ p x vars. cond (isVariable p) (set vars (p .value) (x .value)) vars)
 
 unfoldable pub taken : List Site → Act → Aspect → List ℕ
 taken sites act x = taking (cutOf x) (facing sites act) (replicate 8 0)
@@ -108,13 +103,14 @@ meant vars x = cond (isVariable x) (getD vars (x .value) 0) (x .value)
 abbrev pub known : ℕ → ℕ → Bool
 known v w = not (eqb v 0) && eqb v w
 
--- "some row at the named place has this count and fits names, variables and any"
+-- a row that a test looks for: it "has this count and fits names, variables and any"
+unfoldable pub wanted : List ℕ → Node → Row → Bool
+wanted vars x r =
+    eqb (r .count) (x .count) && fitAll (λ p v. isAny p || known (meant vars p) v) (take (x .count) (x .fields)) (valuesOf r)
+
+-- "some row at the named place" is one
 unfoldable pub testOf : Ask → Node → Bool
-testOf q x =
-    some (λ r.
-    isAt (r .owner) (placeOf (names (q .sites)) (x .a))
-    && (eqb (r .count) (x .count)
-    && fitAll (λ p v. isAny p || known (meant (q .vars) p) v) (take (x .count) (x .fields)) (valuesOf r))) (q .rows)
+testOf q x = some (λ r. isAt (r .owner) (placeOf (names (q .sites)) (x .a)) && wanted (q .vars) x r) (q .rows)
 
 -- A value tells its sort: a condition's is 0 or 1, a recommendation's is 4 more than its code. Of a value of the other sort, and of none,
 -- `yes` is false and `advice` is 0: an accepted table has no such child.

@@ -12,8 +12,12 @@ use Rattle.net.specs.declared.Operand.{Operand}
 unfoldable pub fits : List Operand → List ℕ → Bool
 fits = fitAll (λ x v. isBinding x || eqb (x .value) v)
 
+-- a value handed through two lists, place by place, as far as both go
+abbrev pub through : {A B C : Type 0} → (A → B → C → C) → List A → List B → C → C
+through f [] l c = c
+through f (x ∷ xs) [] c = c
+through f (x ∷ xs) (y ∷ l) c = through f xs l (f x y c)
+
 -- the variables, those that the fields bind now bound to the row's values
 unfoldable pub bound : List Operand → List ℕ → List ℕ → List ℕ
-bound [] l vars = vars
-bound (x ∷ xs) [] vars = vars
-bound (x ∷ xs) (v ∷ l) vars = bound xs l (cond (isBinding x) (set vars (x .value) v) vars)
+bound = through (λ x v vars. cond (isBinding x) (set vars (x .value) v) vars)

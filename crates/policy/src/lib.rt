@@ -1,3 +1,6 @@
-pub fn nothing() -> u8 {
-    0
-}
+// What the mandatory rules and the rules of the house say of an action: the value of step 4, and what it is made of.
+mod fields;
+mod rules;
+
+pub use fields::bound;
+pub use fields::fits;

@@ -1,0 +1,24 @@
+-- `policy::fields::assigned` meets its contract: past the eighth variable there is nothing to set. Assumes nothing.
+use mathlib.Core.Path.{_≡_, sym}
+use native.Mathlib.Omega.{arith}
+use borrow.Author.Needs.{needs}
+use borrow.Author.Tests.{not-true, not-false}
+use lib.ListN.{length}
+use lib.Seq.{set-out}
+use Rattle.policy.proofs.fields.assigned.Statement.{statement}
+use Rattle.policy.proofs.fields.assigned.Tie as tie
+
+returns : tie.Need-returns
+returns c = simp (not-true (c .before .args .test) (c .if1 .taken))
+
+returns-2 : tie.Need-returns-2
+returns-2 c =
+    let s = c .before .before in
+    let h : length (s .args .vars) ≡ 8 = s .good .0 .1 .0 .1 in
+    simp (not-false (c .before .before .args .test) (c .before .if1 .left)) (sym (set-out (s .args .vars) (s .args .variable) (s .args .value) (omega arith)))
+
+returns-3 : tie.Need-returns-3
+returns-3 c = simp (not-false (c .before .before .args .test) (c .before .if1 .left))
+
+pub assigned-spec : {M : Type 1} → statement M
+assigned-spec = tie.close (tie.spec returns returns-2 (λ c. search needs) (λ c. search needs) returns-3)
