@@ -3,7 +3,7 @@
 use mathlib.Core.Path.{_≡_, refl, sym, ap, _∙_, subst}
 use mathlib.Core.Bool.{Bool, true, false, cond, _&&_}
 use mathlib.Core.List.{List, [], _∷_}
-use Prim.Native.Nat.{ℕ, zero, suc}
+use Prim.Native.Nat.{ℕ, zero, suc, _<_}
 use lib.Dec.{T, eqb}
 use lib.ListN.{length, set}
 use lib.Seq.{getD-set-same, lt-length-set}
@@ -100,19 +100,24 @@ history-rises r s (i ∷ is) k =
     (risen-done s k (asking r s i)) (history-rises r (step r s i .after) is k)
 
 -- ---- after a granted take or read, HS of the source dominates the store's class and the store's history
-pub what-is-read-is-known : (r : Rules) (s : State) (i : ℕ) (act : Act) (k : ℕ) → asking r s i ≡ get act k
-    → T (dominates (siteAt (step r s i .after .sites) i .hs) (siteAt (s .sites) (act .target) .o))
-    × T (dominates (siteAt (step r s i .after .sites) i .hs) (siteAt (s .sites) (act .target) .ho))
-what-is-read-is-known r s i act k e =
-    let g = asked-get r s i act k e in
-    let from : act .source ≡ i = ap (λ (x : Act). x .source) (g .tried) in
+abbrev pub Knows : State → ℕ → Site → Type 0
+Knows s i y = T (dominates (siteAt (s .sites) i .hs) (y .o)) × T (dominates (siteAt (s .sites) i .hs) (y .ho))
+
+got-knows : (s : State) (act : Act) (k : ℕ) → act .source < length (s .sites) → Knows (gotAfter s act k) (act .source) (siteAt (s .sites) (act .target))
+got-knows s act k h =
+    let i = act .source in
     let y = siteAt (s .sites) (act .target) in
     let l = change (advance (boundBy s act k)) i (s .sites) in
     let x = siteAt l i in
-    let b = lt-length-set (s .sites) i (advance (boundBy s act k) (siteAt (s .sites) i)) (g .begun .source) in
-    let h : siteAt (step r s i .after .sites) i .hs ≡ join (join (x .hs) (y .o)) (y .ho) =
-    rw (e, from) (ap (λ (z : Site). z .hs) (getD-set-same l i (informed (y .o) (y .ho) x) noSite b)) in
-    rw h (join-second (x .hs) (y .o) (y .ho), join-right (join (x .hs) (y .o)) (y .ho))
+    let b = lt-length-set (s .sites) i (advance (boundBy s act k) (siteAt (s .sites) i)) h in
+    rw (getD-set-same l i (informed (y .o) (y .ho) x) noSite b) (join-second (x .hs) (y .o) (y .ho), join-right (join (x .hs) (y .o)) (y .ho))
+
+pub what-is-read-is-known : (r : Rules) (s : State) (i : ℕ) (act : Act) (k : ℕ) → asking r s i ≡ get act k
+    → Knows (step r s i .after) i (siteAt (s .sites) (act .target))
+what-is-read-is-known r s i act k e =
+    let g = asked-get r s i act k e in
+    let from : act .source ≡ i = ap (λ (x : Act). x .source) (g .tried) in
+    rw e (subst (λ (j : ℕ). Knows (gotAfter s act k) j (siteAt (s .sites) (act .target))) from (got-knows s act k (rw from (g .begun .source))))
 
 -- ---- what is granted, the mandatory rules grant
 mandatory-grants : (r : Rules) (s : State) (act : Act) → grants (judge r (s .sites) (s .rows) act) ≡ true
