@@ -1,0 +1,4 @@
+pub mod Chains
+pub mod Owners
+pub mod Rooms
+pub mod Operands

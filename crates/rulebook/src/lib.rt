@@ -1,3 +1,10 @@
-pub fn nothing() -> u8 {
-    0
-}
+// Which nodes and aspects are good: the rules of the house, as an image may hold them, and the rules of operands, counts and owners that
+// the other kinds of record share. Records are read by value, each once; readers ask for their place and test nothing.
+mod parts;
+
+pub use parts::capability_ok;
+pub use parts::count_ok;
+pub use parts::operand_ok;
+pub use parts::operands_ok;
+pub use parts::owner_ok;
+pub use parts::room_ok;

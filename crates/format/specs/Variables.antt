@@ -1,0 +1,33 @@
+-- How the code keeps and tests variables: a truth value for each of the eight, and a test for each part of an action. The rule itself is
+-- `variableOk`. Assumes nothing.
+use Prim.Native.Nat.{ℕ}
+use mathlib.Core.Bool.{Bool, true, false, cond, not, _&&_, _||_}
+use mathlib.Core.List.{List, _∷_}
+use lib.Dec.{leb, eqb}
+use lib.ListN.{getD}
+use Rattle.words.specs.Lists.{all, some, count}
+use Rattle.words.specs.Tables.{build}
+use Rattle.net.specs.declared.Operand.{Operand}
+use Rattle.net.specs.declared.Action.{Action}
+use Rattle.rulebook.specs.Parts.{speaks}
+use Rattle.format.specs.Format.{binds}
+
+-- the variables that a program binds
+unfoldable pub boundBy : List Action → List Bool
+boundBy p = build 8 (binds p)
+
+-- those of a set and the one that a field binds, if it is used; those that some fields bind
+unfoldable pub boundIf : List Bool → Bool → Operand → List Bool
+boundIf bound used x = build 8 (λ v. getD bound v false || (used && speaks 2 v x))
+
+unfoldable pub boundToo : List Bool → List Operand → List Bool
+boundToo bound l = build 8 (λ v. getD bound v false || some (speaks 2 v) l)
+
+-- the rule for one part of an action: a variable that it uses is bound earlier and by none of the fields f, one that it binds is bound once
+unfoldable pub partOk : List Bool → List Operand → Operand → Bool
+partOk bound f x =
+    cond (eqb (x .tag) 1) (getD bound (x .value) false && eqb (count (speaks 2 (x .value)) f) 0)
+    (cond (eqb (x .tag) 2) (leb (count (speaks 2 (x .value)) f) 1) true)
+
+abbrev pub partsOk : List Bool → Operand → List Operand → Bool
+partsOk bound target f = all (partOk bound f) (target ∷ f)
