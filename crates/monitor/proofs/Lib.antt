@@ -1,0 +1,4 @@
+pub mod Stretches
+pub mod Verdicts
+pub mod Holding
+pub mod Writes

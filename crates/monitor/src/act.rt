@@ -1,17 +1,23 @@
 // Acting: what a granted step changes. Records are read and changed by value, and written whole.
 ghost use mathlib.Core.Path.{_≡_};
-ghost use mathlib.Core.Bool.{true, false};
+ghost use mathlib.Core.Bool.{true, cond};
 ghost use mathlib.Core.List.{map};
 ghost use Prim.Native.Nat.{ℕ, suc, _+_, _-_, _*_, _/_, _≤_, _<_};
-ghost use lib.Dec.{eqb};
-ghost use lib.ListN.{length, getD};
+ghost use lib.Dec.{T, ltb};
+ghost use lib.ListN.{length, getD, set};
 ghost use Rattle.words.specs.Bytes.{splice, inserted, removed, u16Bytes};
 ghost use Rattle.level.specs.Level.{join};
-ghost use Rattle.net.specs.Records.{siteBytes, rowBytes};
-ghost use Rattle.net.specs.Image.{offsetIn, countIn};
-ghost use Rattle.stepping.specs.Step.{advance, marked, loses, informed};
+ghost use Rattle.net.specs.Records.{rowWidth, siteFits, siteBytes, rowBytes};
+ghost use Rattle.words.specs.Lists.{all};
+ghost use Rattle.words.specs.Tables.{Ordered};
+ghost use Rattle.net.specs.Net.{siteAt, held, storeLimit};
+ghost use Rattle.net.specs.Image.{contentsOk, bodyIn, stateIn};
+ghost use Rattle.stepping.specs.Step.{advance, marked, loses, informed, rowPut, placeFor, hasRoom, putAfter, gotAfter};
+ghost use Rattle.monitor.specs.Memory.{rulesHeld, stateHeld, memoryWith};
+ghost use Rattle.monitor.specs.Plan.{actOf, informedBy, Sited, Ready, Reads};
 use level::Level;
 use net::Action;
+use net::Operand;
 use net::Row;
 use net::Site;
 
@@ -91,4 +97,158 @@ fn remove_row(memory: &mut [u8], base: usize, n: usize, k: usize)
     words::remove(memory, base + 10 * k, base + 10 * n, 10);
     let counted = words::word_bytes((n - 1) as u16);
     words::put(memory, 38, &counted);
+}
+
+// The most rows of a store.
+const STORE: usize = 16;
+
+// The record of site i of an image.
+fn site_of(image: &[u8], i: usize) -> Site
+    requires { ⌜ (contentsOk (now image) ≡ true) × (i < length (stateIn (now image) .sites)) ⌝ }
+    ensures { λ r. ⌜ r ≡ siteAt (stateIn (now (image .entry)) .sites) i ⌝ }
+{
+    let sites = format::part(image, 1);
+    net::site_at(sites, 32 * i)
+}
+
+// Site t of an image once site i is x.
+fn site_after(image: &[u8], i: usize, x: Site, t: usize) -> Site
+    requires { ⌜ Sited (now image) i t ⌝ }
+    ensures { λ r. ⌜ r ≡ siteAt (set (stateIn (now (image .entry)) .sites) i x) t ⌝ }
+{
+    if i == t {
+        return x;
+    }
+    site_of(image, t)
+}
+
+// Where a put's row goes in all rows, and whether the store has room for it.
+pub struct Store {
+    pub place: usize,
+    pub room: bool,
+}
+
+// The store of site t of an image.
+fn store_of(image: &[u8], t: usize) -> Store
+    requires { ⌜ (contentsOk (now image) ≡ true) × (t < 65536) × Ordered rowWidth (bodyIn (now image) 5) ⌝ }
+    ensures { λ r. ⌜ (r .place ≡ placeFor t (stateIn (now (image .entry)) .rows)) × (r .room ≡ ltb (held t (stateIn (now (image .entry)) .rows)) storeLimit) ⌝ }
+{
+    let rows = format::part(image, 5);
+    let n = rows.len() / 10;
+    let first = words::count_below(rows, 10, n, t);
+    let end = words::count_below(rows, 10, n, t + 1);
+    Store {
+        place: end,
+        room: end - first < STORE,
+    }
+}
+
+// The values of four fields.
+fn values(f: [Operand; 4]) -> [u16; 4]
+    ensures { λ r. ⌜ r ≡ map (λ x. x .value) f ⌝ }
+{
+    [f[0].value, f[1].value, f[2].value, f[3].value]
+}
+
+// The row that a put adds.
+fn row_put(t: usize, action: Action) -> Row
+    requires { ⌜ t < 256 ⌝ }
+    ensures { λ r. ⌜ r ≡ rowPut (actOf 0 t action) ⌝ }
+{
+    let f = action.fields;
+    Row {
+        owner: t as u8,
+        count: action.count,
+        fields: values(f),
+    }
+}
+
+// The source after it took or read row k at the target.
+fn read_get(image: &[u8], i: usize, t: usize, k: usize, action: Action) -> Site
+    requires { ⌜ Sited (now image) i t × (k < length (stateIn (now image) .rows)) ⌝ }
+    ensures { λ r. ⌜ r ≡ informedBy (stateIn (now (image .entry))) (actOf i t action) k ⌝ }
+{
+    let x = site_of(image, i);
+    let y = site_of(image, t);
+    let rows = format::part(image, 5);
+    let old = x.vars;
+    let vars = policy::bound(action, net::row_at(rows, 10 * k), old);
+    informed(advance(x, vars), y.o, y.ho)
+}
+
+// The target of a put: with room its history is joined with what the writer brings, else it has lost a row.
+fn changed(y: Site, room: bool, c: u16, hs: u16) -> Site
+    ensures { λ r. ⌜ r ≡ cond room (marked c hs y) (loses y) ⌝ }
+{
+    if room {
+        return marked(y, c, hs);
+    }
+    loses(y)
+}
+
+// What a put will write: the source one action further, then the target, then, if there is room, its row at a place among all rows.
+pub struct Writes {
+    pub source: Site,
+    pub target: Site,
+    pub place: usize,
+    pub room: bool,
+}
+
+// The same, read from an image.
+fn read_put(image: &[u8], i: usize, t: usize) -> Writes
+    requires { ⌜ Sited (now image) i t ⌝ }
+    ensures { λ r. ⌜ Reads (stateIn (now (image .entry))) i t r ⌝ }
+{
+    let x = site_of(image, i);
+    let vars = x.vars;
+    let source = advance(x, vars);
+    let store = store_of(image, t);
+    let y = site_after(image, i, source, t);
+    Writes {
+        source,
+        target: changed(y, store.room, x.c, x.hs),
+        place: store.place,
+        room: store.room,
+    }
+}
+
+// Writes the records of two sites, one after the other.
+fn write_sites(memory: &mut [u8], i: usize, x: Site, t: usize, y: Site)
+    requires { ⌜ (44 + 32 * i + 32 ≤ length (now memory)) × (44 + 32 * t + 32 ≤ length (now memory)) ⌝ }
+    ensures { λ _. ⌜ now (memory .exit) ≡ splice (splice (now (memory .entry)) (44 + 32 * i) (siteBytes x)) (44 + 32 * t) (siteBytes y) ⌝ }
+{
+    write_site(memory, i, x);
+    write_site(memory, t, y);
+}
+
+// A put by site i at site t.
+fn put(memory: &mut [u8], i: usize, t: usize, action: Action)
+    requires { ⌜ Ready (now memory) i t × T (all siteFits (putAfter (stateHeld (now memory)) (actOf i t action) (hasRoom (stateHeld (now memory)) (actOf i t action)) .sites)) ⌝ }
+    ensures { λ _. ⌜ now (memory .exit) ≡ memoryWith (rulesHeld (now (memory .entry))) (putAfter (stateHeld (now (memory .entry))) (actOf i t action) (hasRoom (stateHeld (now (memory .entry))) (actOf i t action))) ⌝ }
+{
+    let end = format::end(memory);
+    let base = format::offset(memory, 5);
+    let n = format::count(memory, 5);
+    let p = read_put(&memory[0..end], i, t);
+    let source = p.source;
+    let target = p.target;
+    write_sites(memory, i, source, t, target);
+    if p.room {
+        add_row(memory, base, n, p.place, row_put(t, action));
+    }
+}
+
+// A take or read by site i of row k at site t.
+fn get(memory: &mut [u8], i: usize, t: usize, k: usize, action: Action)
+    requires { ⌜ Ready (now memory) i t × (k < length (stateHeld (now memory) .rows)) × T (all siteFits (gotAfter (stateHeld (now memory)) (actOf i t action) k .sites)) ⌝ }
+    ensures { λ _. ⌜ now (memory .exit) ≡ memoryWith (rulesHeld (now (memory .entry))) (gotAfter (stateHeld (now (memory .entry))) (actOf i t action) k) ⌝ }
+{
+    let end = format::end(memory);
+    let base = format::offset(memory, 5);
+    let n = format::count(memory, 5);
+    let x = read_get(&memory[0..end], i, t, k, action);
+    write_site(memory, i, x);
+    if action.capability == 2 {
+        remove_row(memory, base, n, k);
+    }
 }

@@ -5,13 +5,13 @@ ghost use mathlib.Core.List.{map};
 ghost use Prim.Native.Nat.{ℕ, suc, _+_, _-_, _*_, _/_, _≤_, _<_};
 ghost use lib.Dec.{eqb};
 ghost use lib.ListN.{length, getD};
-ghost use Rattle.words.specs.Tables.{countBelow};
+ghost use Rattle.words.specs.Tables.{Ordered};
 ghost use Rattle.net.specs.Net.{siteAt, actionAt, program};
 ghost use Rattle.net.specs.Image.{stateIn, rulesIn, actionsIn, rowsIn};
 ghost use Rattle.format.specs.Verdict.{verdictOf};
 ghost use Rattle.format.specs.declared.Verdict.the-variants.{Accepted};
 ghost use Rattle.policy.specs.House.{Act};
-ghost use Rattle.stepping.specs.Step.{resolved, resolvedAction, chosen, next};
+ghost use Rattle.stepping.specs.Step.{resolved, resolvedAction, oldest};
 ghost use Rattle.monitor.specs.Plan.{planIn};
 use net::Action;
 use net::Operand;
@@ -74,4 +74,21 @@ fn resolved_action(x: Action, vars: [u16; 8]) -> Action
         target: resolved(x.target, vars),
         fields: resolved_fields(f, vars),
     }
+}
+
+// The oldest row at the target that fits the action.
+fn oldest(rows: &[u8], target: usize, action: Action) -> Found
+    requires { ⌜ (target < 65536) × Ordered 10 (now rows) ⌝ }
+    ensures { λ r. ⌜ r ≡ oldest target action (rowsIn (now (rows .entry))) ⌝ }
+{
+    let n = rows.len() / 10;
+    let end = words::count_below(rows, 10, n, target + 1);
+    let mut k = words::count_below(rows, 10, n, target);
+    while k < end {
+        if policy::fits(action, net::row_at(rows, 10 * k)) {
+            return Found::At(k);
+        }
+        k += 1;
+    }
+    Found::Nothing
 }
