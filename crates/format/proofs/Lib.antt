@@ -1,2 +1,5 @@
 pub mod Binding
 pub mod Parts
+pub mod Eight
+pub mod Programs
+pub mod Order

@@ -1,6 +1,7 @@
 // Which images are accepted: the header, then each kind of record, then the state; and the bodies of an accepted image, as parts of it.
 mod contents;
 mod sites;
+mod states;
 mod variables;
 
 pub use contents::count;
