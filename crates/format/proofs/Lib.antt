@@ -3,3 +3,4 @@ pub mod Parts
 pub mod Eight
 pub mod Programs
 pub mod Order
+pub mod Earlier
