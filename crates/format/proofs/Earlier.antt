@@ -14,7 +14,7 @@ use lib.Seq.{getD-take, length-take-le, take-suc}
 use borrow.Author.Tests.{eqb-true, eqb-false, ne-eqb, eq-eqb}
 use Rattle.words.specs.Lists.{firstBad, every, before, allOf, those}
 use Rattle.words.proofs.Truth.{both-T, is-T, part}
-use Rattle.words.proofs.First.{first-none, first-more, first-below}
+use Rattle.words.proofs.First.{first-none, first-more}
 use Rattle.words.proofs.Groups.{those-none, those-append}
 use Rattle.net.specs.Records.{noAction}
 use Rattle.net.specs.Net.{programLimit, actionAt, program, fieldsOf}
@@ -22,7 +22,7 @@ use Rattle.net.specs.declared.Action.{Action}
 use Rattle.rulebook.specs.Parts.{tagsOf, operandOk, operandsOk, countOk, capabilityOk, ownerOk, roomOk}
 use Rattle.format.specs.Format.{actionRules, actionOk, variableOk}
 use Rattle.format.specs.Variables.{boundBy, boundToo, partsOk, formRules}
-use Rattle.format.proofs.Order.{owner-of}
+use Rattle.format.proofs.Order.{never-fell, owner-of}
 use Rattle.format.proofs.Parts.{parts}
 use Rattle.format.proofs.Programs.{bound-more}
 
@@ -80,10 +80,8 @@ module _ (sites : ℕ) (l : List Action) (k : ℕ) where
 
   module _ (last : ℕ) (bound : List Bool) (e : Earlier sites l k last bound) where
     -- owners never fall so far
-    pub never-fell : (j : ℕ) → j < k → before (owners l) j ≤ getD (owners l) j 0
-    never-fell j h =
-        leb→le (before (owners l) j) (getD (owners l) j 0)
-        (both-T (ltb (getD (owners l) j 0) sites) _ (owner-good j (first-below (actionOk sites l) k j (rw (e .good) h))) .1)
+    pub in-order : (j : ℕ) → j < k → before (owners l) j ≤ getD (owners l) j 0
+    in-order = never-fell sites (owners l) k (actionOk sites l) owner-good (e .good)
 
     owner-is : getD (owners l) k 0 ≡ here .owner
     owner-is = owner-of (λ x. x .owner) noAction refl l k

@@ -4,3 +4,4 @@ pub mod Eight
 pub mod Programs
 pub mod Order
 pub mod Earlier
+pub mod Fields

@@ -10,6 +10,7 @@ use lib.ListN.{length, getD, length-map, List·getD-map}
 use Rattle.words.specs.Lists.{firstBad, before}
 use Rattle.words.specs.Tables.{tableOf, countBelow}
 use Rattle.words.proofs.Truth.{both-T}
+use Rattle.words.proofs.First.{first-below}
 use Rattle.words.proofs.Tables.{table-length, table-at}
 use Rattle.words.proofs.Groups.{Sorted, sorted-of, below}
 use Rattle.rulebook.specs.Parts.{ownerOk}
@@ -19,6 +20,12 @@ pub first-same : (a b : ℕ → Bool) (n : ℕ) → ((k : ℕ) → k < n → a k
 unfolding firstBad
 first-same a b zero e = refl
 first-same a b (suc n) e = rw (first-same a b n (λ k h. e k (omega arith)), e n (omega arith))
+
+-- where the records before record k are good, their owners never fall
+pub never-fell : (sites : ℕ) (owners : List ℕ) (k : ℕ) (ok : ℕ → Bool) → ((j : ℕ) → ok j ≡ true → T (ownerOk sites owners j)) → firstBad ok k ≡ k
+    → (j : ℕ) → j < k → before owners j ≤ getD owners j 0
+never-fell sites owners k ok good e j h =
+    leb→le (before owners j) (getD owners j 0) (both-T (ltb (getD owners j 0) sites) _ (good j (first-below ok k j (rw e h))) .1)
 
 -- owners that never fall, in bytes: records of width w
 abbrev pub InOrder : ℕ → List ℕ → Type 0

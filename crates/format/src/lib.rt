@@ -4,6 +4,7 @@ mod contents;
 mod owners;
 mod sites;
 mod states;
+mod stores;
 mod variables;
 
 pub use contents::count;

@@ -20,7 +20,7 @@ use Rattle.rulebook.specs.Parts.{ownersIn, ownerOk, roomOk}
 use Rattle.rulebook.proofs.Owners.{owners-of}
 use Rattle.format.specs.Format.{actionOk}
 use Rattle.format.specs.Variables.{boundBy, boundToo, formRules}
-use Rattle.format.proofs.Earlier.{Earlier, owners, rules-with, never-fell, bound-now, earlier-more, earlier-none}
+use Rattle.format.proofs.Earlier.{Earlier, owners, rules-with, in-order, bound-now, earlier-more, earlier-none}
 use Rattle.format.proofs.Programs.{bound-none}
 use Rattle.format.proofs.actions.first_bad_action.Statement.{statement}
 use Rattle.format.proofs.actions.first_bad_action.Tie as tie
@@ -40,7 +40,7 @@ module _ (s : List ℕ) (sites k last : ℕ) (bound : List Bool) (e : Earlier si
   inside = rw (table-length readAction actionWidth s) h
 
   ordered : (j : ℕ) → j < k → before (ownersIn actionWidth s) j ≤ getD (ownersIn actionWidth s) j 0
-  ordered j b = rw (← owners-are) (never-fell sites (actionsIn s) k last bound e j b)
+  ordered j b = rw (← owners-are) (in-order sites (actionsIn s) k last bound e j b)
 
   -- what was tested of action k is its rule
   tested : {x : Action} {b : List Bool} {r : Bool} → x ≡ readAction s (actionWidth * k) → b ≡ cond (eqb (x .owner) last) bound (boundBy [])
