@@ -5,3 +5,4 @@ pub mod Programs
 pub mod Order
 pub mod Earlier
 pub mod Fields
+pub mod Verdicts
