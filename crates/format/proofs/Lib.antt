@@ -6,3 +6,5 @@ pub mod Order
 pub mod Earlier
 pub mod Fields
 pub mod Verdicts
+pub mod Ordered
+pub mod Rows
