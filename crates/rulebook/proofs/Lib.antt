@@ -2,3 +2,4 @@ pub mod Chains
 pub mod Owners
 pub mod Rooms
 pub mod Operands
+pub mod Depths

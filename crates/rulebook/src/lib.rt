@@ -1,7 +1,9 @@
 // Which nodes and aspects are good: the rules of the house, as an image may hold them, and the rules of operands, counts and owners that
 // the other kinds of record share. Records are read by value, each once; readers ask for their place and test nothing.
+mod nodes;
 mod parts;
 
+pub use nodes::first_bad_node;
 pub use parts::capability_ok;
 pub use parts::count_ok;
 pub use parts::operand_ok;
