@@ -3,3 +3,5 @@ pub mod Owners
 pub mod Rooms
 pub mod Operands
 pub mod Depths
+pub mod Cuts
+pub mod AspectRules
