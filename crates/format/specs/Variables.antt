@@ -1,15 +1,15 @@
 -- How the code keeps and tests variables: a truth value for each of the eight, and a test for each part of an action. The rule itself is
--- `variableOk`. Assumes nothing.
+-- `variableOk`; that the two agree is a theorem. Assumes nothing.
 use Prim.Native.Nat.{ℕ}
 use mathlib.Core.Bool.{Bool, true, false, cond, not, _&&_, _||_}
-use mathlib.Core.List.{List, _∷_}
+use mathlib.Core.List.{List, [], _∷_}
 use lib.Dec.{leb, eqb}
 use lib.ListN.{getD}
 use Rattle.words.specs.Lists.{all, some, count}
 use Rattle.words.specs.Tables.{build}
 use Rattle.net.specs.declared.Operand.{Operand}
 use Rattle.net.specs.declared.Action.{Action}
-use Rattle.rulebook.specs.Parts.{speaks}
+use Rattle.rulebook.specs.Parts.{tagsOf, operandOk, operandsOk, countOk, capabilityOk, speaks}
 use Rattle.format.specs.Format.{binds}
 
 -- the variables that a program binds
@@ -31,3 +31,14 @@ partOk bound f x =
 
 abbrev pub partsOk : List Bool → Operand → List Operand → Bool
 partsOk bound target f = all (partOk bound f) (target ∷ f)
+
+-- the rules of an action by itself, where `bound` has the variables that its program's earlier actions bind
+abbrev pub formRules : List Bool → Action → List Bool
+formRules bound x =
+    eqb (x .zero) 0
+    ∷ capabilityOk (x .capability)
+    ∷ countOk (x .count)
+    ∷ operandOk (tagsOf false false false) (x .target)
+    ∷ operandsOk (tagsOf (not (eqb (x .capability) 1)) false false) (x .count) (x .fields)
+    ∷ partsOk bound (x .target) (x .fields)
+    ∷ []

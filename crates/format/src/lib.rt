@@ -1,6 +1,10 @@
 // Which images are accepted: the header, then each kind of record, then the state; and the bodies of an accepted image, as parts of it.
+mod actions;
 mod contents;
+mod owners;
 mod sites;
+mod states;
+mod stores;
 mod variables;
 
 pub use contents::count;

@@ -2,10 +2,11 @@
 ghost use mathlib.Core.Path.{_≡_};
 ghost use mathlib.Core.Bool.{cond};
 ghost use Prim.Native.Nat.{_+_, _*_, _≤_, _<_};
-ghost use lib.ListN.{length};
+ghost use lib.ListN.{length, drop};
 ghost use lib.Dec.{ltb};
 ghost use Rattle.words.specs.Lists.{before};
-ghost use Rattle.rulebook.specs.Parts.{operandOk, tagsOf, unused, operandsOk, countOk, capabilityOk, ownersIn, ownerOk, neverFall, roomOk};
+ghost use Rattle.rulebook.specs.Parts.{operandOk, tagsOf, unused, operandsOk, countOk, capabilityOk, speaks, ownersIn, ownerOk, neverFall, roomOk};
+ghost use Rattle.rulebook.specs.Steps.{alone, onceEach};
 use net::Operand;
 
 // Whether an operand is good where names and variables may stand, and these tags as well.
@@ -48,6 +49,37 @@ pub fn operands_ok(l: [Operand; 4], n: u8, binds: bool, any: bool, binder: bool)
         && (field_ok(l[1], 1, n, binds, any, binder)
             && (field_ok(l[2], 2, n, binds, any, binder)
                 && field_ok(l[3], 3, n, binds, any, binder)))
+}
+
+// Whether an operand with this tag speaks of variable v.
+pub fn speaks_of(tag: u16, v: u16, x: Operand) -> bool
+    ensures { λ r. ⌜ r ≡ speaks tag v x ⌝ }
+{
+    (x.tag == tag) & (x.value == v)
+}
+
+// Whether an operand, where it has this tag, speaks of a variable that none from place `from` on speaks of with the tag.
+pub fn is_alone(tag: u16, x: Operand, l: [Operand; 4], from: usize) -> bool
+    ensures { λ r. ⌜ r ≡ alone tag x (drop from l) ⌝ }
+{
+    if x.tag != tag {
+        return true;
+    }
+    let mut j = from;
+    while j < 4 {
+        if speaks_of(tag, x.value, l[j]) {
+            return false;
+        }
+        j += 1;
+    }
+    true
+}
+
+// Whether no two of four operands, with this tag, speak of one variable.
+pub fn once_each(tag: u16, l: [Operand; 4]) -> bool
+    ensures { λ r. ⌜ r ≡ onceEach tag l ⌝ }
+{
+    is_alone(tag, l[0], l, 1) && (is_alone(tag, l[1], l, 2) && is_alone(tag, l[2], l, 3))
 }
 
 // Whether so many fields are 1 to 4.

@@ -1,3 +1,9 @@
+-- `format::contents::part` meets its contract: where the contents are in order each body lies within the image. Assumes nothing.
+use denote.Ref.{now}
+use native.Mathlib.Nat.{add-sub-cancel-left}
+use native.Mathlib.Omega.{arith}
+use Rattle.net.specs.Image.{bodyIn}
+use Rattle.net.proofs.Bodies.{least-length, within}
 use borrow.Author.Needs.{needs}
 use Rattle.format.proofs.contents.part.Statement.{statement}
 use Rattle.format.proofs.contents.part.Tie as tie
@@ -8,11 +14,15 @@ use Rattle.format.proofs.contents.size.Reads as size-reads
 
 -- src/contents.rt:113:9
 offset-requires : tie.Need-offset-requires
-offset-requires c κs = ?
+offset-requires c κs =
+    let b = c .before in
+    omega (arith, least-length (now (b .args .s)) (b .pre .2))
 
 -- src/contents.rt:114:9
 size-requires : tie.Need-size-requires
-size-requires c κs = ?
+size-requires c κs =
+    let b = c .before .before in
+    omega (arith, least-length (now (b .args .s)) (b .pre .2))
 
 -- src/contents.rt:115:11
 add-result : tie.Need-add-result
@@ -28,11 +38,16 @@ part-result-start c = search needs
 
 -- src/contents.rt:115:5
 part-result-end : tie.Need-part-result-end
-part-result-end c = ?
+part-result-end c =
+    let b = c .before .before .before in
+    omega (arith, within (now (b .args .s)) (b .pre .2) (b .args .k) (b .pre .0) (b .pre .1))
 
 -- src/contents.rt:108:1
 returns : tie.Need-returns
-returns c = ?
+unfolding bodyIn
+returns c =
+    let o = c .before .before .offset .ensures .0 in
+    (simp (add-sub-cancel-left, c .before .size .ensures .0, o), simp o)
 
 pub part-spec : {M : Type 1} → statement M
 part-spec =

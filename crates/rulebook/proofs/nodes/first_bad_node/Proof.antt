@@ -1,0 +1,110 @@
+-- `rulebook::first_bad_node` meets its contract. The invariant: every node below k is good, and the row has their depths. Assumes nothing.
+use denote.Ref.{now}
+use mathlib.Core.Path.{_≡_, refl, sym, ap, _∙_}
+use mathlib.Core.List.{List, _++_}
+use Prim.Native.Nat.{ℕ, _+_, _-_, _*_, _≤_, _<_}
+use native.Mathlib.Omega.{arith}
+use borrow.Author.Needs.{needs}
+use borrow.Author.Tests.{le-leb, lt-leb}
+use lib.ListN.{length, drop, length-set, length-replicate}
+use lib.Seq.{length-take-le}
+use Rattle.words.specs.Lists.{firstBad, fill}
+use Rattle.words.proofs.First.{first-none, first-more, first-stops}
+use Rattle.words.proofs.Tables.{table-length}
+use Rattle.net.specs.Records.{nodeWidth, readNode}
+use Rattle.net.specs.Net.{names, nodeAt}
+use Rattle.net.specs.Image.{sitesIn, nodesIn}
+use Rattle.rulebook.specs.Rulebook.{depthOf, depths, nodeOk}
+use Rattle.rulebook.proofs.Depths.{row-shallow, too-deep, good-here, row-more}
+use Rattle.rulebook.proofs.nodes.first_bad_node.Statement.{statement}
+use Rattle.rulebook.proofs.nodes.first_bad_node.Tie as tie
+
+abbrev Inv-loop : tie.InvT-loop
+Inv-loop nodes sites n row₀ k₀ row k =
+    (k ≤ n)
+    × (firstBad (nodeOk (names (sitesIn sites)) (nodesIn nodes)) k ≡ k)
+    × (length row₀ ≡ 1024)
+    × (length row ≡ 1024)
+    × (row ≡ depths (nodesIn nodes) k ++ drop k row₀)
+
+abbrev μ-loop : tie.MeasureT-loop
+μ-loop nodes sites n row₀ k₀ row k = n - k
+
+loop-holds : tie.Need-loop-holds Inv-loop μ-loop
+unfolding fill
+loop-holds c = (omega arith, first-none _, length-replicate {A = ℕ} 1024 0, length-replicate {A = ℕ} 1024 0, refl)
+
+slice-aggregate-depth-at : tie.Need-slice-aggregate-depth-at Inv-loop μ-loop
+slice-aggregate-depth-at c =
+    let l = c .before .before .loop in
+    sym (length-take-le (l .k) (l .row) (omega arith))
+
+depth-at-requires : tie.Need-depth-at-requires Inv-loop μ-loop
+depth-at-requires c κs =
+    let l = c .before .before .loop in
+    let a = c .before .before .before .before .before .args in (
+      omega arith,
+      length-take-le (l .k) (l .row) (omega arith),
+      row-shallow (names (sitesIn (now (a .sites)))) (nodesIn (now (a .nodes))) _ (l .row) (l .k) (l .inv .4) (l .inv .1),
+    )
+
+returns : tie.Need-returns Inv-loop μ-loop
+returns c =
+    let l = c .before .before .before .before .loop in
+    let a = c .before .before .before .before .before .before .before .args in
+    let places = names (sitesIn (now (a .sites))) in
+    let nodes = nodesIn (now (a .nodes)) in
+    let x = c .before .depth-at in
+    let n = table-length readNode nodeWidth (now (a .nodes)) in (
+      sym (first-stops (nodeOk places nodes) (l .k) (length nodes) (l .inv .1)
+          (too-deep places nodes _ (l .row) (l .k) (l .inv .4) (x .result) (x .ensures) (c .if1 .taken)) (omega arith)),
+      omega arith,
+    )
+
+array-write-row : tie.Need-array-write-row Inv-loop μ-loop
+array-write-row c = omega arith
+
+add-k : tie.Need-add-k Inv-loop μ-loop
+add-k c = omega arith
+
+loop-less : tie.Need-loop-less Inv-loop μ-loop
+loop-less c = omega arith
+
+loop-again : tie.Need-loop-again Inv-loop μ-loop
+loop-again c =
+    let l = c .before .before .before .before .loop in
+    let a = c .before .before .before .before .before .before .before .args in
+    let places = names (sitesIn (now (a .sites))) in
+    let nodes = nodesIn (now (a .nodes)) in
+    let x = c .before .depth-at in (
+      omega arith,
+      first-more (nodeOk places nodes) (l .k) (l .inv .1) (good-here places nodes _ (l .row) (l .k) (l .inv .4) (x .result) (x .ensures) (c .if1 .left)),
+      l .inv .2,
+      length-set (l .row) (l .k) (x .result) ∙ l .inv .3,
+      row-more places nodes _ (l .row) (l .k) (l .inv .4) (x .result) (x .ensures) (c .if1 .left) (omega arith),
+    )
+
+returns-2 : tie.Need-returns-2 Inv-loop μ-loop
+returns-2 c =
+    let l = c .before .loop in
+    let nodes = now (c .before .before .before .before .args .nodes) in
+    let n = table-length readNode nodeWidth nodes in
+    let e : l .k ≡ length (nodesIn nodes) = omega arith in
+    (sym (rw e at (l .inv .1) ∙ n), omega arith)
+
+pub first-bad-node-spec : {M : Type 1} → statement M
+first-bad-node-spec =
+    tie.close
+    (tie.spec
+    Inv-loop
+    μ-loop
+    loop-holds
+    (λ c. search needs)
+    slice-aggregate-depth-at
+    depth-at-requires
+    returns
+    array-write-row
+    add-k
+    loop-less
+    loop-again
+    returns-2)
