@@ -1,3 +1,4 @@
+pub mod Bodies
 pub mod Four
 pub mod Places
 pub mod Mandatory

@@ -26,6 +26,9 @@ pub record Act : Type 0 where
   pub target : ℕ
   pub action : Action
 
+abbrev pub actOf : ℕ → ℕ → Action → Act
+actOf s t x = record { source = s; target = t; action = x }
+
 -- ---- terms: "0 S, 1 C, 2 O, 3 HS of the source; 4 O, 5 HO, 6 S, 7 C of the target"
 abbrev pub termsOf : Site → Site → List ℕ
 termsOf x y = x .s ∷ x .c ∷ x .o ∷ x .hs ∷ y .o ∷ y .ho ∷ y .s ∷ y .c ∷ []
@@ -63,7 +66,7 @@ mandatory capability terms = gatherAll (map (ruleGives capability terms) mandato
 
 -- ---- cuts: "a name fits that name; a variable fits any value and takes it; "any" fits all; "binder" fits only a binding field.
 -- Name and variable don't fit a binding field." The part of an action is a name or binds.
-abbrev pub patternFits : Operand → Operand → Bool
+unfoldable pub patternFits : Operand → Operand → Bool
 patternFits p x =
     cond (isName p) (isName x && eqb (p .value) (x .value))
     (cond (isVariable p) (isName x)
@@ -82,11 +85,11 @@ traps sites act x =
     && fitAll patternFits (cutOf x) (facing sites act))
 
 -- what the cut's variables take; the others are unset
-abbrev pub taking : List Operand → List Operand → List ℕ → List ℕ
-taking = through (λ p x vars. cond (isVariable p) (set vars (p .value) (x .value)) vars)
+unfoldable pub takes : Operand → Operand → List ℕ → List ℕ
+takes p x vars = cond (isVariable p) (set vars (p .value) (x .value)) vars
 
 unfoldable pub taken : List Site → Act → Aspect → List ℕ
-taken sites act x = taking (cutOf x) (facing sites act) (replicate 8 0)
+taken sites act x = through takes (cutOf x) (facing sites act) (replicate 8 0)
 
 -- ---- nodes: all that a node's value depends on but the node and the lower values
 pub record Ask : Type 0 where

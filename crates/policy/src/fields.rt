@@ -11,14 +11,14 @@ use net::Operand;
 use net::Row;
 
 // How many of four fields a count takes in.
-fn up_to_four(count: u8) -> usize
+pub fn up_to_four(count: u8) -> usize
     ensures { λ r. ⌜ r ≡ min count 4 ⌝ }
 {
     if count < 4 { count as usize } else { 4 }
 }
 
 // How many of four fields two counts both take in.
-fn shared(a: u8, b: u8) -> usize
+pub fn shared(a: u8, b: u8) -> usize
     ensures { λ r. ⌜ r ≡ min (min a b) 4 ⌝ }
 {
     if a < b { up_to_four(a) } else { up_to_four(b) }

@@ -1,4 +1,5 @@
 // What the mandatory rules and the rules of the house say of an action: the value of step 4, and what it is made of.
+mod cut;
 mod fields;
 mod rules;
 
