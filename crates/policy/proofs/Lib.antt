@@ -1,4 +1,6 @@
 pub mod Bodies
+pub mod Owned
+pub mod Tested
 pub mod Four
 pub mod Places
 pub mod Mandatory

@@ -106,14 +106,17 @@ meant vars x = cond (isVariable x) (getD vars (x .value) 0) (x .value)
 abbrev pub known : ℕ → ℕ → Bool
 known v w = not (eqb v 0) && eqb v w
 
--- a row that a test looks for: it "has this count and fits names, variables and any"
+-- an operand of a test "fits names, variables and any"
+unfoldable pub asks : List ℕ → Operand → ℕ → Bool
+asks vars p v = isAny p || known (meant vars p) v
+
+-- a row that a test looks for: it "has this count and fits"
 unfoldable pub wanted : List ℕ → Node → Row → Bool
-wanted vars x r =
-    eqb (r .count) (x .count) && fitAll (λ p v. isAny p || known (meant vars p) v) (take (x .count) (x .fields)) (valuesOf r)
+wanted vars x r = eqb (r .count) (x .count) && fitAll (asks vars) (take (x .count) (x .fields)) (valuesOf r)
 
 -- "some row at the named place" is one
-unfoldable pub testOf : Ask → Node → Bool
-testOf q x = some (λ r. isAt (r .owner) (placeOf (names (q .sites)) (x .a)) && wanted (q .vars) x r) (q .rows)
+unfoldable pub testOf : List Site → List Row → List ℕ → Node → Bool
+testOf sites rows vars x = some (λ r. isAt (r .owner) (placeOf (names sites) (x .a)) && wanted vars x r) rows
 
 -- A value tells its sort: a condition's is 0 or 1, a recommendation's is 4 more than its code. Of a value of the other sort, and of none,
 -- `yes` is false and `advice` is 0: an accepted table has no such child.
@@ -131,7 +134,7 @@ conditionOf q x row =
     (cond (eqb (x .kind) 3) (yes (getD row (x .a) 0) && yes (getD row (x .b) 0))
     (cond (eqb (x .kind) 4) (yes (getD row (x .a) 0) || yes (getD row (x .b) 0))
     (cond (eqb (x .kind) 5) (known (meant (q .vars) (getD (x .fields) 0 (name 0))) (meant (q .vars) (getD (x .fields) 1 (name 0))))
-    (cond (eqb (x .kind) 6) (testOf q x)
+    (cond (eqb (x .kind) 6) (testOf (q .sites) (q .rows) (q .vars) x)
     (cond (eqb (x .kind) 7) (dominates (getD (q .terms) (x .a) 0) (getD (q .terms) (x .b) 0))
     (cond (eqb (x .kind) 8) (grants (advice (getD row (x .a) 0)))
     false)))))))
