@@ -4,3 +4,5 @@ pub mod Tested
 pub mod Four
 pub mod Places
 pub mod Mandatory
+pub mod Sorts
+pub mod Values

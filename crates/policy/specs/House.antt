@@ -98,6 +98,9 @@ pub record Ask : Type 0 where
   pub terms : List ℕ
   pub vars : List ℕ
 
+abbrev pub ask : List Site → List Row → List ℕ → List ℕ → Ask
+ask sites rows terms vars = record { sites = sites; rows = rows; terms = terms; vars = vars }
+
 -- an operand's value, 0 where its variable is unset
 abbrev pub meant : List ℕ → Operand → ℕ
 meant vars x = cond (isVariable x) (getD vars (x .value) 0) (x .value)
@@ -159,7 +162,7 @@ valueAt q nodes k = getD (rowOf q nodes (length nodes)) k 0
 
 -- ---- policies: what the rules of the house say of an action, by the sites and the rows as they are
 abbrev pub askOf : List Site → List Row → Act → Aspect → Ask
-askOf sites rows act x = record { sites = sites; rows = rows; terms = termsIn sites act; vars = taken sites act x }
+askOf sites rows act x = ask sites rows (termsIn sites act) (taken sites act x)
 
 -- "Trapped with its condition true it gives its recommendation, else 0."
 unfoldable pub gives : List Node → List Site → List Row → Act → Aspect → ℕ
