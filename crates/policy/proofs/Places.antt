@@ -1,15 +1,20 @@
--- Two lists gone through side by side, one place at a time, as the loops over fields do: fitting one another, and handing a value through.
+-- Lists gone through one place at a time, as the loops do: two side by side, fitting one another or handing a value through; one, for some
+-- element that passes a test.
 -- Each by induction on the place. Assumes nothing.
 use mathlib.Core.Path.{_≡_, refl, sym, ap, _∙_}
-use mathlib.Core.Bool.{Bool, true, false, _&&_, and-false}
+use mathlib.Core.Bool.{Bool, true, false, _&&_, _||_, and-false, or-true}
 use mathlib.Core.List.{List, [], _∷_}
 use Prim.Native.Nat.{ℕ, zero, suc, _≤_, _<_, min}
 use native.Mathlib.Nat.{le-of-suc-le-suc, not-suc-le-zero}
 use native.Mathlib.Omega.{arith}
 use lib.ListN.{length, getD, take}
-use Rattle.words.specs.Lists.{fitAll}
+use Rattle.words.specs.Lists.{some, fitAll}
 use Rattle.words.proofs.Truth.{both-left, both-right}
 use Rattle.policy.specs.Match.{through}
+
+or-none : (a b : Bool) → (a || b) ≡ false → (a ≡ false) × (b ≡ false)
+or-none true b e = let z : true ≡ false = e in (cc, cc)
+or-none false b e = (refl, e)
 
 module _ {A B : Type 0} (fit : A → B → Bool) (d : A) (e : B) where
   -- fitting up to i and at i: fitting up to i + 1
@@ -59,6 +64,22 @@ module _ {A B C : Type 0} (f : A → B → C → C) (d : A) (e : B) where
   through-least (suc i) (suc n) (suc k) (x ∷ l) [] c h g z = refl
   through-least (suc i) (suc n) (suc k) (x ∷ l) (y ∷ m) c h g z =
       through-least i n k l m (f x y c) (le-of-suc-le-suc h) (le-of-suc-le-suc g) (λ p q. z (omega arith) (omega arith))
+
+-- ---- one list
+module _ {A : Type 0} (p : A → Bool) (d : A) where
+  -- none up to i, and not i: none up to i + 1
+  pub none-more : (i : ℕ) (l : List A) → i < length l → some p (take i l) ≡ false → p (getD l i d) ≡ false → some p (take (suc i) l) ≡ false
+  none-more i [] h t u = absurd (not-suc-le-zero h)
+  none-more zero (x ∷ l) h t u = rw u
+  none-more (suc i) (x ∷ l) h t u =
+      rw (or-none (p x) (some p (take i l)) t .0) (none-more i l (le-of-suc-le-suc h) (or-none (p x) (some p (take i l)) t .1) u)
+
+  -- i is one of them
+  pub some-here : (i n : ℕ) (l : List A) → i < n → i < length l → p (getD l i d) ≡ true → some p (take n l) ≡ true
+  some-here i zero l k h u = absurd (not-suc-le-zero k)
+  some-here i (suc n) [] k h u = absurd (not-suc-le-zero h)
+  some-here zero (suc n) (x ∷ l) k h u = rw u
+  some-here (suc i) (suc n) (x ∷ l) k h u = rw (some-here i n l (le-of-suc-le-suc k) (le-of-suc-le-suc h) u) (or-true (p x))
 
 -- the first k of four
 pub take-four : {A : Type 0} (n k : ℕ) (l : List A) → length l ≡ 4 → n ≡ min k 4 → take n l ≡ take k l

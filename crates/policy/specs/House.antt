@@ -26,6 +26,9 @@ pub record Act : Type 0 where
   pub target : ℕ
   pub action : Action
 
+abbrev pub actOf : ℕ → ℕ → Action → Act
+actOf s t x = record { source = s; target = t; action = x }
+
 -- ---- terms: "0 S, 1 C, 2 O, 3 HS of the source; 4 O, 5 HO, 6 S, 7 C of the target"
 abbrev pub termsOf : Site → Site → List ℕ
 termsOf x y = x .s ∷ x .c ∷ x .o ∷ x .hs ∷ y .o ∷ y .ho ∷ y .s ∷ y .c ∷ []
@@ -63,7 +66,7 @@ mandatory capability terms = gatherAll (map (ruleGives capability terms) mandato
 
 -- ---- cuts: "a name fits that name; a variable fits any value and takes it; "any" fits all; "binder" fits only a binding field.
 -- Name and variable don't fit a binding field." The part of an action is a name or binds.
-abbrev pub patternFits : Operand → Operand → Bool
+unfoldable pub patternFits : Operand → Operand → Bool
 patternFits p x =
     cond (isName p) (isName x && eqb (p .value) (x .value))
     (cond (isVariable p) (isName x)
@@ -82,11 +85,11 @@ traps sites act x =
     && fitAll patternFits (cutOf x) (facing sites act))
 
 -- what the cut's variables take; the others are unset
-abbrev pub taking : List Operand → List Operand → List ℕ → List ℕ
-taking = through (λ p x vars. cond (isVariable p) (set vars (p .value) (x .value)) vars)
+unfoldable pub takes : Operand → Operand → List ℕ → List ℕ
+takes p x vars = cond (isVariable p) (set vars (p .value) (x .value)) vars
 
 unfoldable pub taken : List Site → Act → Aspect → List ℕ
-taken sites act x = taking (cutOf x) (facing sites act) (replicate 8 0)
+taken sites act x = through takes (cutOf x) (facing sites act) (replicate 8 0)
 
 -- ---- nodes: all that a node's value depends on but the node and the lower values
 pub record Ask : Type 0 where
@@ -94,6 +97,9 @@ pub record Ask : Type 0 where
   pub rows : List Row
   pub terms : List ℕ
   pub vars : List ℕ
+
+abbrev pub ask : List Site → List Row → List ℕ → List ℕ → Ask
+ask sites rows terms vars = record { sites = sites; rows = rows; terms = terms; vars = vars }
 
 -- an operand's value, 0 where its variable is unset
 abbrev pub meant : List ℕ → Operand → ℕ
@@ -103,14 +109,17 @@ meant vars x = cond (isVariable x) (getD vars (x .value) 0) (x .value)
 abbrev pub known : ℕ → ℕ → Bool
 known v w = not (eqb v 0) && eqb v w
 
--- a row that a test looks for: it "has this count and fits names, variables and any"
+-- an operand of a test "fits names, variables and any"
+unfoldable pub asks : List ℕ → Operand → ℕ → Bool
+asks vars p v = isAny p || known (meant vars p) v
+
+-- a row that a test looks for: it "has this count and fits"
 unfoldable pub wanted : List ℕ → Node → Row → Bool
-wanted vars x r =
-    eqb (r .count) (x .count) && fitAll (λ p v. isAny p || known (meant vars p) v) (take (x .count) (x .fields)) (valuesOf r)
+wanted vars x r = eqb (r .count) (x .count) && fitAll (asks vars) (take (x .count) (x .fields)) (valuesOf r)
 
 -- "some row at the named place" is one
-unfoldable pub testOf : Ask → Node → Bool
-testOf q x = some (λ r. isAt (r .owner) (placeOf (names (q .sites)) (x .a)) && wanted (q .vars) x r) (q .rows)
+unfoldable pub testOf : List Site → List Row → List ℕ → Node → Bool
+testOf sites rows vars x = some (λ r. isAt (r .owner) (placeOf (names sites) (x .a)) && wanted vars x r) rows
 
 -- A value tells its sort: a condition's is 0 or 1, a recommendation's is 4 more than its code. Of a value of the other sort, and of none,
 -- `yes` is false and `advice` is 0: an accepted table has no such child.
@@ -128,7 +137,7 @@ conditionOf q x row =
     (cond (eqb (x .kind) 3) (yes (getD row (x .a) 0) && yes (getD row (x .b) 0))
     (cond (eqb (x .kind) 4) (yes (getD row (x .a) 0) || yes (getD row (x .b) 0))
     (cond (eqb (x .kind) 5) (known (meant (q .vars) (getD (x .fields) 0 (name 0))) (meant (q .vars) (getD (x .fields) 1 (name 0))))
-    (cond (eqb (x .kind) 6) (testOf q x)
+    (cond (eqb (x .kind) 6) (testOf (q .sites) (q .rows) (q .vars) x)
     (cond (eqb (x .kind) 7) (dominates (getD (q .terms) (x .a) 0) (getD (q .terms) (x .b) 0))
     (cond (eqb (x .kind) 8) (grants (advice (getD row (x .a) 0)))
     false)))))))
@@ -153,7 +162,7 @@ valueAt q nodes k = getD (rowOf q nodes (length nodes)) k 0
 
 -- ---- policies: what the rules of the house say of an action, by the sites and the rows as they are
 abbrev pub askOf : List Site → List Row → Act → Aspect → Ask
-askOf sites rows act x = record { sites = sites; rows = rows; terms = termsIn sites act; vars = taken sites act x }
+askOf sites rows act x = ask sites rows (termsIn sites act) (taken sites act x)
 
 -- "Trapped with its condition true it gives its recommendation, else 0."
 unfoldable pub gives : List Node → List Site → List Row → Act → Aspect → ℕ

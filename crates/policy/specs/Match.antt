@@ -19,5 +19,8 @@ through f (x ∷ xs) [] c = c
 through f (x ∷ xs) (y ∷ l) c = through f xs l (f x y c)
 
 -- the variables, those that the fields bind now bound to the row's values
+unfoldable pub binds : Operand → ℕ → List ℕ → List ℕ
+binds x v vars = cond (isBinding x) (set vars (x .value) v) vars
+
 unfoldable pub bound : List Operand → List ℕ → List ℕ → List ℕ
-bound = through (λ x v vars. cond (isBinding x) (set vars (x .value) v) vars)
+bound = through binds

@@ -1,24 +1,24 @@
 // Matching: whether a row fits an action's fields, and what the fields that bind take from it.
 ghost use mathlib.Core.Path.{_≡_};
-ghost use mathlib.Core.Bool.{cond, _||_};
+ghost use mathlib.Core.Bool.{_||_};
 ghost use Prim.Native.Nat.{_<_, _≤_, min};
 ghost use lib.Dec.{eqb};
-ghost use lib.ListN.{set};
 ghost use Rattle.net.specs.Net.{isBinding, fieldsOf, valuesOf};
 ghost use Rattle.policy.specs.Match.{fits, bound};
+use crate::vars::assigned;
 use net::Action;
 use net::Operand;
 use net::Row;
 
 // How many of four fields a count takes in.
-fn up_to_four(count: u8) -> usize
+pub fn up_to_four(count: u8) -> usize
     ensures { λ r. ⌜ r ≡ min count 4 ⌝ }
 {
     if count < 4 { count as usize } else { 4 }
 }
 
 // How many of four fields two counts both take in.
-fn shared(a: u8, b: u8) -> usize
+pub fn shared(a: u8, b: u8) -> usize
     ensures { λ r. ⌜ r ≡ min (min a b) 4 ⌝ }
 {
     if a < b { up_to_four(a) } else { up_to_four(b) }
@@ -49,22 +49,6 @@ pub fn fits(action: Action, row: Row) -> bool
         i += 1;
     }
     true
-}
-
-// The variables with this one set, where the test holds; there is none from 8 on.
-pub fn assigned(vars: [u16; 8], test: bool, variable: u16, value: u16) -> [u16; 8]
-    ensures { λ r. ⌜ r ≡ cond test (set vars variable value) vars ⌝ }
-{
-    let at = variable as usize;
-    if !test {
-        return vars;
-    }
-    if 8 <= at {
-        return vars;
-    }
-    let mut v = vars;
-    v[at] = value;
-    v
 }
 
 // The variables, those that the fields bind now bound to the row's values.

@@ -1,37 +1,32 @@
 -- `policy::bound` meets its contract. The invariant: the variables are those after the first i fields and values. Assumes nothing.
 use mathlib.Core.Path.{_≡_, refl, sym, ap, _∙_}
-use mathlib.Core.Bool.{cond}
-use mathlib.Core.List.{List}
 use Prim.Native.Nat.{ℕ, _-_, _≤_, _<_, _+_, min}
 use native.Mathlib.Omega.{arith}
 use native.Mathlib.Numerals.{add-one}
 use borrow.Author.Needs.{needs}
-use lib.ListN.{set, take}
-use Rattle.net.specs.Net.{isBinding, fieldsOf, valuesOf}
+use lib.ListN.{take}
+use Rattle.net.specs.Net.{fieldsOf, valuesOf}
 use Rattle.net.specs.Records.{noOperand}
-use Rattle.net.specs.declared.Operand.{Operand}
-use Rattle.policy.specs.Match.{through, bound}
+use Rattle.policy.specs.Match.{through, binds, bound}
 use Rattle.policy.proofs.Four.{four-fields, four-values}
 use Rattle.policy.proofs.Places.{through-more, through-least, take-four}
 use Rattle.policy.proofs.fields.bound.Statement.{statement}
 use Rattle.policy.proofs.fields.bound.Tie as tie
 
-abbrev bind : Operand → ℕ → List ℕ → List ℕ
-bind x v vars = cond (isBinding x) (set vars (x .value) v) vars
-
 abbrev Inv-loop : tie.InvT-loop
-Inv-loop fields values n v₀ i₀ v i = (i ≤ n) × (n ≤ 4) × (v ≡ through bind (take i fields) (take i values) v₀)
+Inv-loop fields values n v₀ i₀ v i = (i ≤ n) × (n ≤ 4) × (v ≡ through binds (take i fields) (take i values) v₀)
 
 abbrev μ-loop : tie.MeasureT-loop
 μ-loop fields values n v₀ i₀ v i = n - i
 
 loop-again : tie.Need-loop-again Inv-loop μ-loop
+unfolding binds
 loop-again c =
     let l = c .before .before .before .before in
     let s = l .before .before .before .before in
     let f = four-fields (s .args .action) _ (s .good .0) in
     let v = four-values (s .args .row) _ (s .good .1 .0) in
-    (omega arith, omega arith, rw (add-one (l .loop .i), through-more bind noOperand 0 (l .loop .i) (s .args .action .fields) (s .args .row .fields) (s .args .vars) (omega arith) (omega arith), ← l .loop .inv .2) (c .assigned .ensures))
+    (omega arith, omega arith, rw (add-one (l .loop .i), through-more binds noOperand 0 (l .loop .i) (s .args .action .fields) (s .args .row .fields) (s .args .vars) (omega arith) (omega arith), ← l .loop .inv .2) (c .assigned .ensures))
 
 returns : tie.Need-returns Inv-loop μ-loop
 unfolding bound
@@ -41,7 +36,7 @@ returns c =
     let a = s .args .action in
     let r = s .args .row in
     l .loop .inv .2
-    ∙ sym (through-least bind noOperand 0 (l .loop .i) (min (a .count) 4) (min (r .count) 4) (a .fields) (r .fields) (s .args .vars) (omega arith) (omega arith) (λ p q. omega arith))
+    ∙ sym (through-least binds noOperand 0 (l .loop .i) (min (a .count) 4) (min (r .count) 4) (a .fields) (r .fields) (s .args .vars) (omega arith) (omega arith) (λ p q. omega arith))
     ∙ rw (take-four (min (a .count) 4) (a .count) (a .fields) (four-fields a _ (s .good .0)) refl, take-four (min (r .count) 4) (r .count) (r .fields) (four-values r _ (s .good .1 .0)) refl)
 
 pub bound-spec : {M : Type 1} → statement M

@@ -1,12 +1,12 @@
--- `policy::fields::assigned` meets its contract: past the eighth variable there is nothing to set. Assumes nothing.
+-- `policy::vars::assigned` meets its contract: past the eighth variable there is nothing to set. Assumes nothing.
 use mathlib.Core.Path.{_≡_, sym}
 use native.Mathlib.Omega.{arith}
 use borrow.Author.Needs.{needs}
 use borrow.Author.Tests.{not-true, not-false}
 use lib.ListN.{length}
 use lib.Seq.{set-out}
-use Rattle.policy.proofs.fields.assigned.Statement.{statement}
-use Rattle.policy.proofs.fields.assigned.Tie as tie
+use Rattle.policy.proofs.vars.assigned.Statement.{statement}
+use Rattle.policy.proofs.vars.assigned.Tie as tie
 
 returns : tie.Need-returns
 returns c = simp (not-true (c .before .args .test) (c .if1 .taken))
