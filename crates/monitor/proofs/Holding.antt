@@ -21,7 +21,7 @@ use Rattle.format.specs.Verdict.{leastSize, numberOf, isAccepted, sizeOk, verdi
 use Rattle.format.specs.declared.Verdict.{Verdict}
 use Rattle.format.specs.declared.Verdict.the-variants.{Accepted, Size, Edition, Contents, BadSite, BadNode, BadAspect, BadAction, BadRow, BadState, Small}
 use Rattle.monitor.specs.Memory.{Held, imageIn, holdsNet, rulesHeld, stateHeld, memoryWith}
-use Rattle.monitor.proofs.Verdicts.{Passed, accepted-passed, accepted-image, image-accepted, formed-net, formed-fits}
+use Rattle.format.proofs.Verdicts.{Right, accepted-right, accepted-image, image-accepted, net-of-formed, formed-fits}
 
 -- ---- an answer is accepted exactly if its number is 0
 pub is-accepted : (v : Verdict) → isAccepted v ≡ true → v ≡ Accepted
@@ -78,7 +78,7 @@ holds-parts m e =
     let i = imageIn m in
     let a = is-accepted (verdictOf i) (both-left (isAccepted (verdictOf i)) _ r) in
     let z = both-right (isAccepted (verdictOf i)) r in
-    let p = accepted-passed i a in
+    let p = accepted-right i a in
     let least = least-length i (p .contents) in
     let t = length-take (endIn m) m in
     let whole : length i ≡ endIn m = sym (contents i (p .contents) .end) ∙ end-take (endIn m) m (omega arith) in
@@ -93,8 +93,8 @@ holds-parts m e =
 
 -- ---- and back
 module _ (b : List ℕ) (a : verdictOf b ≡ Accepted) where
-  passed : Passed b
-  passed = accepted-passed b a
+  passed : Right b
+  passed = accepted-right b a
 
   pub accepted-length : length b ≤ memorySize
   accepted-length = let h = most-length b (passed .contents) in omega arith
@@ -147,7 +147,7 @@ module _ (r : Rules) (s : State) (t : T (wellFormed (record { state = s; rules =
   memory-holds = padded-holds (imageOf net) (image-accepted net t)
 
   net-back : netOf (imageIn (memoryWith r s)) ≡ net
-  net-back = ap netOf (image-padded (imageOf net) (image-accepted net t)) ∙ formed-net net t
+  net-back = ap netOf (image-padded (imageOf net) (image-accepted net t)) ∙ net-of-formed net t
 
   pub rules-back : rulesHeld (memoryWith r s) ≡ r
   rules-back = ap (λ (n : Net). n .rules) net-back

@@ -1,4 +1,5 @@
 pub mod Stretches
-pub mod Verdicts
 pub mod Holding
 pub mod Writes
+pub mod Readiness
+pub mod Acting

@@ -38,27 +38,29 @@ module _ (n : Net) (f : Fits n) where
   rows-at : (l : List Site) → length l ≡ length (n .state .sites) → T (all siteFits l) → offsetIn (memoryOf n) 5 ≡ offsetIn (imageOf (withSites l n)) 5
   rows-at l e t = memory-says n f .at5 ∙ sym (rows-start (withSites l n) (fits-with n l f e t) ∙ rw e)
 
+  -- one site
+  pub site-written : {m m₁ : List ℕ} (i : ℕ) (x : Site) → i < length (n .state .sites) → m ≡ memoryOf n → m₁ ≡ splice m (44 + 32 * i) (siteBytes x)
+      → m₁ ≡ memoryOf (withSites (set (n .state .sites) i x) n)
+  site-written i x h e w = w ∙ rw e (memory-site n i x h)
+
   -- two sites
   pub sites-written : {m m₁ : List ℕ} (i t : ℕ) (x y : Site) → i < length (n .state .sites) → t < length (n .state .sites) → m ≡ memoryOf n
       → m₁ ≡ splice (splice m (44 + 32 * i) (siteBytes x)) (44 + 32 * t) (siteBytes y) → m₁ ≡ memoryOf (withSites (set (set (n .state .sites) i x) t y) n)
   sites-written i t x y h g e w =
       w ∙ rw (e, memory-site n i x h) (memory-site (withSites (set (n .state .sites) i x) n) t y (lt-length-set (n .state .sites) i x g))
 
-  module _ {m m₁ m₂ : List ℕ} {base count : ℕ} (l : List Site) (same : length l ≡ length (n .state .sites)) (fit : T (all siteFits l))
+  module _ {m m₁ : List ℕ} {base count : ℕ} (l : List Site) (same : length l ≡ length (n .state .sites)) (fit : T (all siteFits l))
       (held : m ≡ memoryOf n) (b : base ≡ offsetIn m 5) (c : count ≡ countIn m 5) (sites : m₁ ≡ memoryOf (withSites l n)) where
-    abbrev rows : List Row
-    rows = n .state .rows
-
-    counted : count ≡ length rows
+    counted : count ≡ length (n .state .rows)
     counted = c ∙ ap (λ (k : List ℕ). countIn k 5) held ∙ memory-says n f .count5
 
     based : base ≡ offsetIn (imageOf (withSites l n)) 5
     based = b ∙ ap (λ (k : List ℕ). offsetIn k 5) held ∙ rows-at l same fit
 
-    pub row-added : (k : ℕ) (y : Row) → k ≤ length rows → m₂ ≡ splice (inserted (rowBytes y) (base + 10 * k) (base + 10 * count) m₁) 38 (u16Bytes (count + 1))
-        → m₂ ≡ memoryOf (withRows (insertAt k y rows) (withSites l n))
+    pub row-added : {m₂ : List ℕ} (k : ℕ) (y : Row) → k ≤ length (n .state .rows) → m₂ ≡ splice (inserted (rowBytes y) (base + 10 * k) (base + 10 * count) m₁) 38 (u16Bytes (count + 1))
+        → m₂ ≡ memoryOf (withRows (insertAt k y (n .state .rows)) (withSites l n))
     row-added k y h w = w ∙ rw (sites, based, counted) (memory-add (withSites l n) (fits-with n l f same fit) k y h)
 
-    pub row-removed : (k : ℕ) → k < length rows → m₂ ≡ splice (removed 10 (base + 10 * k) (base + 10 * count) m₁) 38 (u16Bytes (count - 1))
-        → m₂ ≡ memoryOf (withRows (removeAt k rows) (withSites l n))
+    pub row-removed : {m₂ : List ℕ} (k : ℕ) → k < length (n .state .rows) → m₂ ≡ splice (removed 10 (base + 10 * k) (base + 10 * count) m₁) 38 (u16Bytes (count - 1))
+        → m₂ ≡ memoryOf (withRows (removeAt k (n .state .rows)) (withSites l n))
     row-removed k h w = w ∙ rw (sites, based, counted) (memory-remove (withSites l n) (fits-with n l f same fit) k h)

@@ -11,9 +11,9 @@ ghost use Rattle.net.specs.Records.{rowWidth, siteFits, siteBytes, rowBytes};
 ghost use Rattle.words.specs.Lists.{all};
 ghost use Rattle.words.specs.Tables.{Ordered};
 ghost use Rattle.net.specs.Net.{siteAt, held, storeLimit};
-ghost use Rattle.net.specs.Image.{contentsOk, bodyIn, stateIn};
+ghost use Rattle.net.specs.Image.{contentsOk, countIn, offsetIn, bodyIn, stateIn};
 ghost use Rattle.stepping.specs.Step.{advance, marked, loses, informed, rowPut, placeFor, hasRoom, putAfter, gotAfter};
-ghost use Rattle.monitor.specs.Memory.{rulesHeld, stateHeld, memoryWith};
+ghost use Rattle.monitor.specs.Memory.{holdsNet, imageIn, rulesHeld, stateHeld, memoryWith};
 ghost use Rattle.monitor.specs.Plan.{actOf, informedBy, Sited, Ready, Reads};
 use level::Level;
 use net::Action;
@@ -212,6 +212,49 @@ fn read_put(image: &[u8], i: usize, t: usize) -> Writes
     }
 }
 
+// The image at the front of memory that holds a net.
+pub fn image_of(memory: &[u8]) -> &[u8]
+    requires { ⌜ holdsNet (now memory) ≡ true ⌝ }
+    ensures { λ r. ⌜ now r ≡ imageIn (now (memory .entry)) ⌝ }
+{
+    let end = format::end(memory);
+    &memory[0..end]
+}
+
+// Where the rows begin in memory, and how many they are.
+pub struct Rows {
+    pub base: usize,
+    pub count: usize,
+}
+
+fn rows_of(memory: &[u8]) -> Rows
+    requires { ⌜ 44 ≤ length (now memory) ⌝ }
+    ensures { λ r. ⌜ (r .base ≡ offsetIn (now (memory .entry)) 5) × (r .count ≡ countIn (now (memory .entry)) 5) ⌝ }
+{
+    Rows {
+        base: format::offset(memory, 5),
+        count: format::count(memory, 5),
+    }
+}
+
+// What a put will write, read from memory.
+fn plan_put(memory: &[u8], i: usize, t: usize) -> Writes
+    requires { ⌜ Ready (now memory) i t ⌝ }
+    ensures { λ r. ⌜ Reads (stateHeld (now (memory .entry))) i t r ⌝ }
+{
+    let image = image_of(memory);
+    read_put(image, i, t)
+}
+
+// The source after a take or read, read from memory.
+fn plan_get(memory: &[u8], i: usize, t: usize, k: usize, action: Action) -> Site
+    requires { ⌜ Ready (now memory) i t × (k < length (stateHeld (now memory) .rows)) ⌝ }
+    ensures { λ r. ⌜ r ≡ informedBy (stateHeld (now (memory .entry))) (actOf i t action) k ⌝ }
+{
+    let image = image_of(memory);
+    read_get(image, i, t, k, action)
+}
+
 // Writes the records of two sites, one after the other.
 fn write_sites(memory: &mut [u8], i: usize, x: Site, t: usize, y: Site)
     requires { ⌜ (44 + 32 * i + 32 ≤ length (now memory)) × (44 + 32 * t + 32 ≤ length (now memory)) ⌝ }
@@ -226,15 +269,13 @@ fn put(memory: &mut [u8], i: usize, t: usize, action: Action)
     requires { ⌜ Ready (now memory) i t × T (all siteFits (putAfter (stateHeld (now memory)) (actOf i t action) (hasRoom (stateHeld (now memory)) (actOf i t action)) .sites)) ⌝ }
     ensures { λ _. ⌜ now (memory .exit) ≡ memoryWith (rulesHeld (now (memory .entry))) (putAfter (stateHeld (now (memory .entry))) (actOf i t action) (hasRoom (stateHeld (now (memory .entry))) (actOf i t action))) ⌝ }
 {
-    let end = format::end(memory);
-    let base = format::offset(memory, 5);
-    let n = format::count(memory, 5);
-    let p = read_put(&memory[0..end], i, t);
+    let p = plan_put(memory, i, t);
     let source = p.source;
     let target = p.target;
+    let rows = rows_of(memory);
     write_sites(memory, i, source, t, target);
     if p.room {
-        add_row(memory, base, n, p.place, row_put(t, action));
+        add_row(memory, rows.base, rows.count, p.place, row_put(t, action));
     }
 }
 
@@ -243,12 +284,10 @@ fn get(memory: &mut [u8], i: usize, t: usize, k: usize, action: Action)
     requires { ⌜ Ready (now memory) i t × (k < length (stateHeld (now memory) .rows)) × T (all siteFits (gotAfter (stateHeld (now memory)) (actOf i t action) k .sites)) ⌝ }
     ensures { λ _. ⌜ now (memory .exit) ≡ memoryWith (rulesHeld (now (memory .entry))) (gotAfter (stateHeld (now (memory .entry))) (actOf i t action) k) ⌝ }
 {
-    let end = format::end(memory);
-    let base = format::offset(memory, 5);
-    let n = format::count(memory, 5);
-    let x = read_get(&memory[0..end], i, t, k, action);
+    let x = plan_get(memory, i, t, k, action);
+    let rows = rows_of(memory);
     write_site(memory, i, x);
     if action.capability == 2 {
-        remove_row(memory, base, n, k);
+        remove_row(memory, rows.base, rows.count, k);
     }
 }

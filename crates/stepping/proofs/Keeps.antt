@@ -20,7 +20,7 @@ use Rattle.net.specs.Records.{noSite, noRow, noAction}
 use Rattle.format.specs.Format.{wellFormed, netRules, shapeRules, countRules, siteOk, actionRules, actionOk, variableOk, partsOf, stateOk, placed, binds}
 use Rattle.rulebook.specs.Parts.{countOk, operandOk, operandsOk, speaks}
 use Rattle.net.specs.Records.{siteFits, wordsFit, bytesFit, actionFits, operandsFit}
-use Rattle.stepping.proofs.Rows.{goodRow, Rows, rows-of, rows-fit, rows-ok, rows-few, rows-remove, rows-insert}
+use Rattle.format.proofs.Rows.{goodRow, Rows, rows-of, rows-fit, rows-ok, rows-few, rows-remove, rows-insert}
 use Rattle.stepping.proofs.Programs.{Standing, those-at, length-those, values, values-ok, values-fit, binds-next, bind-nothing, all-resolved-binds, bound-length, bound-all, bound-sets}
 use Rattle.words.proofs.Truth.{or-right}
 use Rattle.stepping.specs.Step.{Plan, asking, done, next, doing, resolved, change, advance, marked, loses, informed, boundBy, rowPut, placeFor, hits, hasRoom, putAfter, gotAfter, step, final}
@@ -287,6 +287,7 @@ module _ (s : State) (r : Rules) (formed : T (wellFormed (record { state = s; ru
       also values-ok (spot .vars) (act .count) (act .fields) (put-operands e) used-set)
 
   put-keeps : next s i .capability ≡ 1 → (b : Bool) → hasRoom s (doing s i t) ≡ b → T (wellFormed (record { state = putAfter s (doing s i t) b; rules = r }))
+  unfolding placeFor
   put-keeps e true q =
       let f = marked (spot .c) (spot .hs) in
       let l = change (advance (spot .vars)) i (s .sites) in

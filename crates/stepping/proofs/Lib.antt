@@ -1,5 +1,3 @@
-pub mod Owners
-pub mod Rows
 pub mod Programs
 pub mod StepLaws
 pub mod Keeps

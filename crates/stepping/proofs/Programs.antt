@@ -18,7 +18,7 @@ use Rattle.format.specs.Format.{binds, fieldsOk}
 use Rattle.net.specs.Records.{operandsFit, wordsFit}
 use Rattle.policy.specs.House.{name}
 use Rattle.stepping.specs.Step.{resolved}
-use Rattle.policy.specs.Match.{bound, fits}
+use Rattle.policy.specs.Match.{binds as bindsOne, bound, fits}
 use Rattle.net.specs.declared.Operand.{Operand}
 use Rattle.net.specs.declared.Action.{Action}
 
@@ -204,13 +204,13 @@ bind-one-length x w vars = pick (isBinding x)
     pick false = refl
 
 pub bound-length : (xs : List Operand) (l vars : List ℕ) → length (bound xs l vars) ≡ length vars
-unfolding bound
+unfolding bound bindsOne
 bound-length [] l vars = refl
 bound-length (x ∷ xs) [] vars = refl
 bound-length (x ∷ xs) (w ∷ l) vars = bound-length xs l (bind-one x w vars) ∙ bind-one-length x w vars
 
 pub bound-all : (p : ℕ → Bool) (xs : List Operand) (l vars : List ℕ) → T (all p l) → T (all p vars) → T (all p (bound xs l vars))
-unfolding bound
+unfolding bound bindsOne
 bound-all p [] l vars t u = u
 bound-all p (x ∷ xs) [] vars t u = u
 bound-all p (x ∷ xs) (w ∷ l) vars t u =
@@ -230,7 +230,7 @@ swap false false c = refl
 -- after binding a variable is set exactly if a field binds it or it was set
 pub bound-sets : (xs : List Operand) (l vars : List ℕ) (v : ℕ) → T (fits xs l) → T (all (λ w. not (eqb w 0)) l) → v < length vars
     → not (eqb (getD (bound xs l vars) v 0) 0) ≡ (some (speaks 2 v) xs || not (eqb (getD vars v 0) 0))
-unfolding fits bound
+unfolding fits bound bindsOne
 bound-sets [] [] vars v t u h = refl
 bound-sets [] (w ∷ l) vars v t u h = absurd t
 bound-sets (x ∷ xs) [] vars v t u h = absurd t

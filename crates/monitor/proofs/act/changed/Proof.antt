@@ -1,3 +1,4 @@
+-- `monitor::act::changed` meets its contract: by whether there is room. Assumes nothing.
 use borrow.Author.Needs.{needs}
 use Rattle.monitor.proofs.act.changed.Statement.{statement}
 use Rattle.monitor.proofs.act.changed.Tie as tie
@@ -12,7 +13,7 @@ marked-requires c κs = search needs
 
 -- src/act.rt:184:9
 returns : tie.Need-returns
-returns c = ?
+returns c = simp (c .before .if1 .taken) (c .marked .ensures)
 
 -- src/act.rt:186:5
 loses-requires : tie.Need-loses-requires
@@ -20,7 +21,7 @@ loses-requires c κs = search needs
 
 -- src/act.rt:180:1
 returns-2 : tie.Need-returns-2
-returns-2 c = ?
+returns-2 c = simp (c .before .if1 .left) (c .loses .ensures)
 
 pub changed-spec : {M : Type 1} → statement M
 changed-spec = tie.close (tie.spec marked-requires returns loses-requires returns-2)

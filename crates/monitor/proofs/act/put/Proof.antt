@@ -1,87 +1,72 @@
+-- `monitor::act::put` meets its contract: the writes make the memory of the net after the put. Assumes nothing.
+use denote.Ref.{now}
+use mathlib.Core.Path.{_≡_, ap}
+use Prim.Native.Nat.{_≤_}
+use native.Mathlib.Omega.{arith}
 use borrow.Author.Needs.{needs}
+use lib.ListN.{length}
+use Rattle.words.specs.Bytes.{Bytes}
+use Rattle.net.specs.Image.{netOf}
+use Rattle.monitor.specs.Memory.{stateHeld}
+use Rattle.monitor.proofs.Readiness.{Space, space}
+use Rattle.monitor.proofs.Acting.{place-within, length-sites, put-added, put-dropped}
 use Rattle.monitor.proofs.act.put.Statement.{statement}
 use Rattle.monitor.proofs.act.put.Tie as tie
-use Rattle.monitor.proofs.act.put.Reads as reads
-use Rattle.monitor.proofs.act.put.Lts as lts
-use Rattle.format.proofs.count.Reads as count-reads
-use Rattle.format.proofs.end.Reads as end-reads
-use Rattle.format.proofs.offset.Reads as offset-reads
-use Rattle.monitor.proofs.act.add_row.Reads as add-row-reads
-use Rattle.monitor.proofs.act.read_put.Reads as read-put-reads
-use Rattle.monitor.proofs.act.row_put.Reads as row-put-reads
-use Rattle.monitor.proofs.act.write_sites.Reads as write-sites-reads
 
--- src/act.rt:229:9
-end-requires : tie.Need-end-requires
-end-requires c κs = ?
+-- what is known of memory at entry
+bytes : (c : tie.After-slice-known) → Bytes (now (c .before .args .memory))
+bytes c k = omega (arith, c .slice-known .given k)
 
--- src/act.rt:230:9
-offset-requires : tie.Need-offset-requires
-offset-requires c κs = ?
+room : (c : tie.After-slice-known) → Space (now (c .before .args .memory)) (c .before .args .i) (c .before .args .t)
+room c = space (now (c .before .args .memory)) (bytes c) (c .before .args .i) (c .before .args .t) (c .before .pre .0)
 
--- src/act.rt:231:9
-count-requires : tie.Need-count-requires
-count-requires c κs = ?
+rows-of-requires : tie.Need-rows-of-requires
+rows-of-requires c κs = omega (arith, room (c .before .before .before .before .before) .size)
 
--- src/act.rt:232:22
-sub-read-put : tie.Need-sub-read-put
-sub-read-put c = search needs
-
--- src/act.rt:232:22
-part-read-put-start : tie.Need-part-read-put-start
-part-read-put-start c = search needs
-
--- src/act.rt:232:22
-part-read-put-end : tie.Need-part-read-put-end
-part-read-put-end c = ?
-
--- src/act.rt:232:9
-read-put-requires : tie.Need-read-put-requires
-read-put-requires c κs = ?
-
--- src/act.rt:235:5
 write-sites-requires : tie.Need-write-sites-requires
-write-sites-requires c κs = ?
+write-sites-requires c κs = let r = room (c .before .before .before .before .before .before .before) in (r .source, r .target)
 
--- src/act.rt:237:43
 row-put-requires : tie.Need-row-put-requires
-row-put-requires c κs = ?
+row-put-requires c κs = room (c .before .before .before .before .before .before .before .before .before .before .before .before) .owner
 
--- src/act.rt:237:9
 add-row-requires : tie.Need-add-row-requires
-add-row-requires c κs = ?
+add-row-requires c κs =
+    let e = c .before .before .before .before .before .before .before .before .before .before .before .before .before in
+    let m = now (e .before .args .memory) in
+    let a = e .before .args in
+    let r = room e in
+    let p = c .before .before .before .before .before .before .before .before .before .before .before .plan-put in
+    let rows = c .before .before .before .before .before .before .before .rows-of in
+    let w = c .before .before .before .before .before .write-sites in
+    let l = ap length (w .ensures) in
+    (
+      omega (arith, p .ensures .place, place-within (a .t) (stateHeld m .rows), rows .ensures .1, r .counted),
+      omega (arith, rows .ensures .1, r .few),
+      omega (arith, rows .ensures .0, r .base),
+      omega (arith, rows .ensures .0, rows .ensures .1, r .rows, r .end, r .size, l, length-sites m (a .i) (p .result .source) (a .t) (p .result .target) (r .source) (r .target)),
+    )
 
--- src/act.rt:225:1
-same-length : tie.Need-same-length
-same-length c = search needs
-
--- src/act.rt:225:1
 returns : tie.Need-returns
-returns c = ?
+returns c =
+    let e = c .before .before .before .before .before .before .before .before .before .before .before .before .before .before .before .before in
+    let m = now (e .before .args .memory) in
+    let a = e .before .args in
+    let p = c .before .before .before .before .before .before .before .before .before .before .before .before .before .before .plan-put in
+    let rows = c .before .before .before .before .before .before .before .before .before .before .rows-of in
+    put-added m (bytes e) (a .i) (a .t) (e .before .pre .0) (a .action) (p .result) (p .ensures) (c .before .before .before .before .before .before .before .before .write-sites .ensures) (e .before .pre .1)
+    (rows .ensures .0) (rows .ensures .1) (c .before .before .before .row-put .ensures) (c .before .before .add-row .ensures) (c .before .before .before .before .before .if1 .taken)
 
--- src/act.rt:225:1
-same-length-2 : tie.Need-same-length-2
-same-length-2 c = search needs
-
--- src/act.rt:225:1
 returns-2 : tie.Need-returns-2
-returns-2 c = ?
+returns-2 c =
+    let e = c .before .before .before .before .before .before .before .before .before .before .before in
+    let m = now (e .before .args .memory) in
+    let a = e .before .args in
+    let p = c .before .before .before .before .before .before .before .before .before .plan-put in
+    put-dropped m (bytes e) (a .i) (a .t) (e .before .pre .0) (a .action) (p .result) (p .ensures) (c .before .before .before .write-sites .ensures) (c .if1 .left)
 
 pub put-spec : {M : Type 1} → statement M
 put-spec =
     tie.close
     (tie.spec
-    end-requires
-    offset-requires
-    count-requires
-    sub-read-put
-    part-read-put-start
-    part-read-put-end
-    read-put-requires
-    write-sites-requires
-    row-put-requires
-    add-row-requires
-    same-length
-    returns
-    same-length-2
-    returns-2)
+    (λ c κs. search needs) rows-of-requires write-sites-requires row-put-requires add-row-requires
+    (λ c. search needs) returns (λ c. search needs) returns-2)

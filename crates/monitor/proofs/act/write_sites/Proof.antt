@@ -1,3 +1,4 @@
+-- `monitor::act::write_sites` meets its contract: one write after the other. Assumes nothing.
 use borrow.Author.Needs.{needs}
 use Rattle.monitor.proofs.act.write_sites.Statement.{statement}
 use Rattle.monitor.proofs.act.write_sites.Tie as tie
@@ -19,7 +20,7 @@ same-length c = search needs
 
 -- src/act.rt:216:1
 returns : tie.Need-returns
-returns c = ?
+returns c = cc
 
 pub write-sites-spec : {M : Type 1} → statement M
 write-sites-spec =
