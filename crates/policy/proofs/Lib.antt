@@ -6,3 +6,4 @@ pub mod Places
 pub mod Mandatory
 pub mod Sorts
 pub mod Values
+pub mod Given
