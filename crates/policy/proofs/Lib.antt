@@ -7,3 +7,4 @@ pub mod Mandatory
 pub mod Sorts
 pub mod Values
 pub mod Given
+pub mod More
