@@ -1,7 +1,7 @@
 -- The records of a body by their number: record k is the one that starts at byte w * k. Assumes nothing.
 use mathlib.Core.Path.{_≡_, refl, ap}
 use mathlib.Core.List.{List}
-use Prim.Native.Nat.{ℕ, _*_, _/_, _<_}
+use Prim.Native.Nat.{ℕ, _+_, _*_, _/_, _<_}
 use lib.ListN.{length, getD}
 use Rattle.words.specs.Bytes.{u16At}
 use Rattle.words.proofs.Tables.{table-at}
@@ -25,3 +25,12 @@ aspect-owner s i = refl
 pub row-owner : (s : List ℕ) (i : ℕ) → readRow s i .owner ≡ getD s i 0
 unfolding readRow
 row-owner s i = refl
+
+-- an aspect's condition and recommendation stand at its end
+pub condition-in : (s : List ℕ) (i : ℕ) → readAspect s i .condition ≡ u16At s (i + 28)
+unfolding readAspect
+condition-in s i = refl
+
+pub recommendation-in : (s : List ℕ) (i : ℕ) → readAspect s i .recommendation ≡ u16At s (i + 30)
+unfolding readAspect
+recommendation-in s i = refl

@@ -6,3 +6,5 @@ pub mod Places
 pub mod Mandatory
 pub mod Sorts
 pub mod Values
+pub mod Given
+pub mod More

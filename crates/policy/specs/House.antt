@@ -174,6 +174,9 @@ gives nodes sites rows act x =
 unfoldable pub policy : List Node → List Site → List Row → Act → ℕ → List Aspect → ℕ
 policy nodes sites rows act site l = gatherAll (map (gives nodes sites rows act) (house site l))
 
+abbrev pub rulesOf : List Node → List Aspect → Rules
+rulesOf nodes aspects = record { nodes = nodes; aspects = aspects }
+
 -- "Gather the mandatory rules, the source's policy and the target's."
 unfoldable pub judge : Rules → List Site → List Row → Act → ℕ
 judge r sites rows act =
