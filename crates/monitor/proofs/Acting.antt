@@ -21,7 +21,8 @@ use Rattle.net.specs.declared.Row.{Row}
 use Rattle.net.proofs.Memory.{withSites}
 use Rattle.stepping.specs.Step.{advance, boundBy, placeFor, rowPut, hasRoom, putAfter, gotAfter}
 use Rattle.monitor.specs.Memory.{imageIn, rulesHeld, stateHeld, memoryWith}
-use Rattle.monitor.specs.Plan.{actOf, informedBy, Ready, Reads}
+use Rattle.policy.specs.House.{actOf}
+use Rattle.monitor.specs.Plan.{informedBy, Ready, Reads}
 use Rattle.monitor.specs.declared.act.Writes.{Writes}
 use Rattle.monitor.proofs.Holding.{held-memory, held-fits}
 use Rattle.monitor.proofs.Writes.{site-written, sites-written, row-added, row-removed}

@@ -3,3 +3,4 @@ pub mod Holding
 pub mod Writes
 pub mod Readiness
 pub mod Acting
+pub mod Asking

@@ -13,16 +13,12 @@ use Rattle.net.specs.Net.{State, storeLimit, siteAt, held}
 use Rattle.net.specs.Image.{contentsOk, bodyIn, stateIn}
 use Rattle.net.specs.declared.Action.{Action}
 use Rattle.net.specs.declared.Site.{Site}
-use Rattle.policy.specs.House.{Act}
+use Rattle.policy.specs.House.{Act, actOf}
 use Rattle.stepping.specs.Step.{Start, stop, go, Plan, refuse, put, get, change, advance, marked, loses, informed, boundBy, placeFor, isGranted}
 use Rattle.stepping.specs.declared.Answer.the-variants.{NoPlace}
 use Rattle.monitor.specs.Memory.{holdsNet, stateHeld}
 use Rattle.monitor.specs.declared.ask.Asked.{Asked}
 use Rattle.monitor.specs.declared.act.Writes.{Writes}
-
--- an action of site i at site t
-abbrev pub actOf : ℕ → ℕ → Action → Act
-actOf i t x = record { source = i; target = t; action = x }
 
 -- step 3, of an action with its used variables resolved
 abbrev pub toward : ℕ → Action → Found → Start

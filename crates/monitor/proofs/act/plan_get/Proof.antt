@@ -4,7 +4,8 @@ use mathlib.Core.Path.{ap, _∙_}
 use mathlib.Core.List.{List}
 use Prim.Native.Nat.{ℕ}
 use Rattle.net.specs.Image.{stateIn}
-use Rattle.monitor.specs.Plan.{actOf, informedBy}
+use Rattle.policy.specs.House.{actOf}
+use Rattle.monitor.specs.Plan.{informedBy}
 use Rattle.monitor.proofs.Readiness.{sited}
 use borrow.Author.Needs.{needs}
 use Rattle.monitor.proofs.act.plan_get.Statement.{statement}
