@@ -2,15 +2,15 @@
 use Prim.Native.Nat.{ℕ, _+_}
 use mathlib.Core.Bool.{Bool, true, cond, not, _&&_, _||_}
 use mathlib.Core.List.{List, [], _∷_}
-use lib.Dec.{leb, eqb}
-use lib.ListN.{take}
+use lib.Dec.{ltb, leb, eqb}
+use lib.ListN.{length, take}
 use Rattle.words.specs.Lists.{every, allOf, some, count}
 use Rattle.net.specs.Net.{depthLimit, nodeAt, cutOf}
 use Rattle.net.specs.declared.Operand.{Operand}
 use Rattle.net.specs.declared.Node.{Node}
 use Rattle.net.specs.declared.Aspect.{Aspect}
 use Rattle.rulebook.specs.Parts.{operandOk, operandsOk, countOk, capabilityOk, speaks}
-use Rattle.rulebook.specs.Rulebook.{depthOf, nodeRules}
+use Rattle.rulebook.specs.Rulebook.{isCondition, isAdvice, depthOf, nodeRules}
 
 -- ---- variables: an operand, where it has this tag, speaks of a variable that none of these speaks of with the tag
 unfoldable pub alone : ℕ → Operand → List Operand → Bool
@@ -31,7 +31,7 @@ shapeOk places l k x = allOf (take 5 (nodeRules places l k x))
 unfoldable pub depthAt : List ℕ → List Node → ℕ → List ℕ → ℕ
 depthAt places l k row = cond (shapeOk places l k (nodeAt l k)) (depthOf (nodeAt l k) row) (depthLimit + 1)
 
--- ---- aspects: the first bytes of its record after the owner, and its cut
+-- ---- aspects: the first bytes of its record after the owner, its cut, and the nodes that it names
 abbrev pub headOk : Aspect → Bool
 headOk x = capabilityOk (x .capability) && (countOk (x .count) && eqb (x .zero) 0)
 
@@ -45,3 +45,9 @@ cutRules x =
 
 unfoldable pub cutOk : Aspect → Bool
 cutOk x = allOf (cutRules x)
+
+abbrev pub namesOk : List Node → Aspect → Bool
+namesOk nodes x =
+    ltb (x .condition) (length nodes)
+    && (isCondition (nodeAt nodes (x .condition))
+    && (ltb (x .recommendation) (length nodes) && isAdvice (nodeAt nodes (x .recommendation))))

@@ -1,9 +1,8 @@
 -- `rulebook::depth_at` meets its contract: the node is read from its place in the table. Assumes nothing.
 use denote.Ref.{now}
-use mathlib.Core.Path.{_≡_, sym, _∙_}
-use native.Mathlib.Omega.{arith}
+use mathlib.Core.Path.{sym, _∙_}
 use Rattle.words.proofs.Truth.{fails, holds}
-use Rattle.net.specs.Net.{names, nodeAt}
+use Rattle.net.specs.Net.{names}
 use Rattle.net.specs.Image.{sitesIn, nodesIn}
 use Rattle.rulebook.proofs.Depths.{node-is, first-before, second-before, depth-bad, depth-good}
 use borrow.Author.Needs.{needs}

@@ -1,20 +1,19 @@
 -- `rulebook::first_bad_node` meets its contract. The invariant: every node below k is good, and the row has their depths. Assumes nothing.
 use denote.Ref.{now}
-use mathlib.Core.Path.{_≡_, refl, sym, ap, _∙_}
-use mathlib.Core.List.{List, _++_}
-use Prim.Native.Nat.{ℕ, _+_, _-_, _*_, _≤_, _<_}
+use mathlib.Core.Path.{_≡_, refl, sym, _∙_}
+use mathlib.Core.List.{_++_}
+use Prim.Native.Nat.{ℕ, _+_, _-_, _≤_}
 use native.Mathlib.Omega.{arith}
 use borrow.Author.Needs.{needs}
-use borrow.Author.Tests.{le-leb, lt-leb}
 use lib.ListN.{length, drop, length-set, length-replicate}
 use lib.Seq.{length-take-le}
 use Rattle.words.specs.Lists.{firstBad, fill}
 use Rattle.words.proofs.First.{first-none, first-more, first-stops}
 use Rattle.words.proofs.Tables.{table-length}
 use Rattle.net.specs.Records.{nodeWidth, readNode}
-use Rattle.net.specs.Net.{names, nodeAt}
+use Rattle.net.specs.Net.{names}
 use Rattle.net.specs.Image.{sitesIn, nodesIn}
-use Rattle.rulebook.specs.Rulebook.{depthOf, depths, nodeOk}
+use Rattle.rulebook.specs.Rulebook.{depths, nodeOk}
 use Rattle.rulebook.proofs.Depths.{row-shallow, too-deep, good-here, row-more}
 use Rattle.rulebook.proofs.nodes.first_bad_node.Statement.{statement}
 use Rattle.rulebook.proofs.nodes.first_bad_node.Tie as tie
