@@ -18,7 +18,9 @@ use net::node_at;
 use net::place_of;
 use words::Found;
 
-// A node is at most so deep.
+// There are at most so many nodes, and each is at most so deep.
+const MOST_NODES: usize = 1024;
+
 const DEPTH_LIMIT: u8 = 8;
 
 // Whether a kind is a condition's or a recommendation's.
@@ -204,7 +206,7 @@ pub fn first_bad_node(nodes: &[u8], sites: &[u8]) -> usize
     ensures { λ r. ⌜ (r ≡ firstBad (nodeOk (names (sitesIn (now (sites .entry)))) (nodesIn (now (nodes .entry)))) (length (nodesIn (now (nodes .entry))))) × (r ≤ length (nodesIn (now (nodes .entry)))) ⌝ }
 {
     let n = nodes.len() / 24;
-    let mut row: [u8; 1024] = [0; 1024];
+    let mut row = [0u8; MOST_NODES];
     let mut k = 0;
     while k < n {
         let x = depth_at(nodes, sites, k, &row[..k]);
