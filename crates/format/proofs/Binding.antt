@@ -16,7 +16,7 @@ use Rattle.words.proofs.Truth.{both-left, both-right}
 use Rattle.words.proofs.Tables.{length-build, getD-build, build-same, build-list}
 use Rattle.net.specs.declared.Operand.{Operand}
 use Rattle.rulebook.specs.Parts.{speaks}
-use Rattle.format.specs.Variables.{boundIf, boundToo}
+use Rattle.format.specs.Steps.{boundIf, boundToo}
 
 -- ---- a list of eight is what a rule builds that gives its elements
 pub built : (bound : List Bool) (f : ℕ → Bool) → length bound ≡ 8 → ((v : ℕ) → v < 8 → getD bound v false ≡ f v) → bound ≡ build 8 f

@@ -21,7 +21,7 @@ use Rattle.net.specs.Net.{programLimit, actionAt, program, fieldsOf}
 use Rattle.net.specs.declared.Action.{Action}
 use Rattle.rulebook.specs.Parts.{tagsOf, operandOk, operandsOk, countOk, capabilityOk, ownerOk, roomOk}
 use Rattle.format.specs.Format.{actionRules, actionOk, variableOk}
-use Rattle.format.specs.Variables.{boundBy, boundToo, partsOk, formRules}
+use Rattle.format.specs.Steps.{boundBy, boundToo, partsOk, formRules}
 use Rattle.format.proofs.Order.{never-fell, owner-of}
 use Rattle.format.proofs.Parts.{parts}
 use Rattle.format.proofs.Programs.{bound-more}

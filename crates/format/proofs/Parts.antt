@@ -18,7 +18,7 @@ use Rattle.net.specs.declared.Operand.{Operand}
 use Rattle.net.specs.declared.Action.{Action}
 use Rattle.rulebook.specs.Parts.{operandOk, operandsOk, unused, speaks}
 use Rattle.format.specs.Format.{binds, partsOf, variableOk}
-use Rattle.format.specs.Variables.{boundBy, partOk, partsOk}
+use Rattle.format.specs.Steps.{boundBy, partOk, partsOk}
 
 -- ---- elements of a list that pass a test
 module _ {A : Type 0} where

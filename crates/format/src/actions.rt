@@ -10,7 +10,7 @@ ghost use Rattle.words.specs.Lists.{firstBad, before, allOf};
 ghost use Rattle.net.specs.Image.{actionsIn};
 ghost use Rattle.rulebook.specs.Parts.{ownersIn, ownerOk, roomOk};
 ghost use Rattle.format.specs.Format.{actionOk};
-ghost use Rattle.format.specs.Variables.{boundBy, formRules};
+ghost use Rattle.format.specs.Steps.{boundBy, formRules};
 use crate::contents::ACTION_WIDTH;
 use crate::owners::place_ok;
 use crate::variables::bound_too;

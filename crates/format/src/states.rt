@@ -7,7 +7,7 @@ ghost use lib.ListN.{length, getD, take, drop};
 ghost use Rattle.words.specs.Lists.{firstBad, every, allOf};
 ghost use Rattle.net.specs.Image.{sitesIn, actionsIn};
 ghost use Rattle.format.specs.Format.{placed, stateOk};
-ghost use Rattle.format.specs.Variables.{boundBy};
+ghost use Rattle.format.specs.Steps.{boundBy};
 use crate::contents::ACTION_WIDTH;
 use crate::contents::SITE_WIDTH;
 use crate::variables::bound_too;

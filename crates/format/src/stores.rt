@@ -15,7 +15,7 @@ use net::Row;
 use rulebook::count_ok;
 
 // The most rows of one site.
-const STORE_LIMIT: usize = 16;
+pub const STORE_LIMIT: usize = 16;
 
 // Whether field j of a row of n fields is as it has to be.
 fn field_ok(n: u8, j: u8, v: u16) -> bool

@@ -19,7 +19,7 @@ use Rattle.net.specs.declared.Action.{Action}
 use Rattle.rulebook.specs.Parts.{ownersIn, ownerOk, roomOk}
 use Rattle.rulebook.proofs.Owners.{owners-of}
 use Rattle.format.specs.Format.{actionOk}
-use Rattle.format.specs.Variables.{boundBy, boundToo, formRules}
+use Rattle.format.specs.Steps.{boundBy, boundToo, formRules}
 use Rattle.format.proofs.Earlier.{Earlier, owners, rules-with, in-order, bound-now, earlier-more, earlier-none}
 use Rattle.format.proofs.Programs.{bound-none}
 use Rattle.format.proofs.actions.first_bad_action.Statement.{statement}

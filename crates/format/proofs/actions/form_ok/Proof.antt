@@ -3,7 +3,7 @@ use mathlib.Core.Path.{refl, sym}
 use mathlib.Core.Bool.{true}
 use borrow.Author.Tests.{eq-eqb, ne-eqb}
 use Rattle.rulebook.proofs.Chains.{Tried, last, on, stop, tried}
-use Rattle.format.specs.Variables.{formRules}
+use Rattle.format.specs.Steps.{formRules}
 use borrow.Author.Needs.{needs}
 use Rattle.format.proofs.actions.form_ok.Statement.{statement}
 use Rattle.format.proofs.actions.form_ok.Tie as tie

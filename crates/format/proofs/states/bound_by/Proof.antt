@@ -13,7 +13,7 @@ use Rattle.net.specs.Records.{actionWidth, noAction, readAction}
 use Rattle.net.specs.Net.{fieldsOf}
 use Rattle.net.specs.Image.{actionsIn}
 use Rattle.net.specs.declared.Action.{Action}
-use Rattle.format.specs.Variables.{boundBy, boundToo}
+use Rattle.format.specs.Steps.{boundBy, boundToo}
 use Rattle.format.proofs.Programs.{bound-none, bound-next}
 use Rattle.format.proofs.states.bound_by.Statement.{statement}
 use Rattle.format.proofs.states.bound_by.Tie as tie

@@ -15,7 +15,7 @@ use Rattle.net.specs.Records.{actionWidth, readAction}
 use Rattle.net.specs.Image.{actionsIn}
 use Rattle.net.specs.declared.Action.{Action}
 use Rattle.format.specs.Format.{binds, placed}
-use Rattle.format.specs.Variables.{boundBy}
+use Rattle.format.specs.Steps.{boundBy}
 use Rattle.format.proofs.Eight.{every-eight}
 use borrow.Author.Needs.{needs}
 use Rattle.format.proofs.states.state_ok.Statement.{statement}

@@ -2,7 +2,7 @@
 use mathlib.Core.Path.{refl}
 use borrow.Author.Tests.{eq-eqb, ne-eqb}
 use Rattle.words.proofs.Truth.{so}
-use Rattle.format.specs.Variables.{partOk}
+use Rattle.format.specs.Steps.{partOk}
 use borrow.Author.Needs.{needs}
 use Rattle.format.proofs.variables.part_ok.Statement.{statement}
 use Rattle.format.proofs.variables.part_ok.Tie as tie

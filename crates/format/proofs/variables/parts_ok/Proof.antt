@@ -1,7 +1,7 @@
 -- `format::variables::parts_ok` meets its contract: the target and the four fields one by one. Assumes nothing.
 use Rattle.words.proofs.Truth.{so}
 use Rattle.net.specs.Records.{noOperand}
-use Rattle.format.specs.Variables.{partOk}
+use Rattle.format.specs.Steps.{partOk}
 use Rattle.format.proofs.Binding.{all-four}
 use borrow.Author.Needs.{needs}
 use Rattle.format.proofs.variables.parts_ok.Statement.{statement}
