@@ -1,7 +1,7 @@
 -- The first bad record that a check finds in the parts of an image is the one of the verdict, and none found is none in the verdict; a number
 -- of a record fits a u16, since an image is short. Assumes nothing.
-use mathlib.Core.Path.{_≡_, refl, sym, ap, _∙_}
-use mathlib.Core.Bool.{Bool, true, false, cond}
+use mathlib.Core.Path.{_≡_, sym, _∙_}
+use mathlib.Core.Bool.{true, false}
 use mathlib.Core.List.{List}
 use Prim.Native.Nat.{ℕ, _*_, _/_, _≤_, _<_}
 use native.Mathlib.Omega.{arith}
@@ -9,7 +9,6 @@ use lib.Dec.{ltb}
 use lib.ListN.{length, length-take, length-drop}
 use Rattle.words.specs.Lists.{firstBad}
 use Rattle.words.specs.Tables.{tableOf}
-use Rattle.words.proofs.Truth.{below, not-below}
 use Rattle.words.proofs.Tables.{table-length}
 use Rattle.net.specs.Records.{siteWidth, nodeWidth, aspectWidth, actionWidth, rowWidth, readSite, readNode, readAspect, readAction, readRow}
 use Rattle.net.specs.Net.{mostNodes, names}

@@ -1,18 +1,17 @@
 -- An image is accepted exactly if it is the image of a well-formed net, and that net is the net of the image and no other: each part of the
 -- verdict is a rule of the net, and what fits its place in an image is read back. Assumes nothing.
 use mathlib.Core.Path.{_≡_, refl, sym, ap, subst, _∙_}
-use mathlib.Core.Bool.{Bool, true, false, cond, _&&_}
+use mathlib.Core.Bool.{Bool, true, false, cond}
 use mathlib.Core.List.{List}
-use Prim.Native.Nat.{ℕ, _≤_}
+use Prim.Native.Nat.{ℕ}
 use native.Mathlib.Omega.{arith}
-use lib.Dec.{T, ltb, leb, eqb, leb→le, le→leb, eqb→eq}
+use lib.Dec.{T, ltb, eqb, leb→le, le→leb, eqb→eq}
 use lib.ListN.{length}
 use borrow.Author.Tests.{ltb-false, le-ltb, eq-eqb, eqb-true, le-leb}
-use Rattle.words.specs.Lists.{firstBad, every, allOf, all}
+use Rattle.words.specs.Lists.{firstBad, every}
 use Rattle.words.specs.Bytes.{Bytes, u16At}
-use Rattle.words.proofs.Truth.{no, part, joined, _also_, is-T, T-is, both-left}
+use Rattle.words.proofs.Truth.{no, part, joined, _also_, is-T}
 use Rattle.words.proofs.First.{first-le}
-use Rattle.net.specs.Records.{siteFits, nodeFits, aspectFits, actionFits, rowFits}
 use Rattle.net.specs.Net.{State, Rules, Net, mostSites, mostNodes, mostAspects, mostActions, mostRows, names}
 use Rattle.net.specs.Image.{contentsOk, stateIn, rulesIn, netOf, imageOf}
 use Rattle.net.proofs.Images.{Fits, contents-of-image, edition-of-image, least-image, most-image, net-of-image, fits-of-image, image-of-net}

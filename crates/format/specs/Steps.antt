@@ -1,7 +1,6 @@
 -- How the code goes through the rules, for its contracts: it keeps variables as a truth value for each of the eight, tests each part of an
 -- action, where the rule `variableOk` speaks of each variable, and gives the last part of the verdict by itself. Theorems say that all this
 -- comes to the rules of `Format` and `Verdict`. Assumes nothing.
-use Prim.Native.Nat.{ℕ}
 use mathlib.Core.Bool.{Bool, true, false, cond, not, _&&_, _||_}
 use mathlib.Core.List.{List, [], _∷_}
 use lib.Dec.{ltb, leb, eqb}

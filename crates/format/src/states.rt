@@ -11,9 +11,9 @@ ghost use Rattle.format.specs.Steps.{boundBy};
 use crate::contents::ACTION_WIDTH;
 use crate::contents::SITE_WIDTH;
 use crate::variables::bound_too;
+use net::Site;
 use net::action_at;
 use net::site_at;
-use net::Site;
 use words::count_below;
 
 // The variables that n actions bind, from action `from` on.

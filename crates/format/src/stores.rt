@@ -10,8 +10,8 @@ ghost use Rattle.rulebook.specs.Parts.{countOk, ownersIn, ownerOk, roomOk};
 ghost use Rattle.format.specs.Format.{fieldsOk, rowOk};
 use crate::contents::ROW_WIDTH;
 use crate::owners::place_ok;
-use net::row_at;
 use net::Row;
+use net::row_at;
 use rulebook::count_ok;
 
 // The most rows of one site.

@@ -12,45 +12,30 @@ use Rattle.format.specs.Verdict.{leastSize, mostSize, sizeOk, verdictOf}
 use borrow.Author.Needs.{needs}
 use Rattle.format.proofs.check.Statement.{statement}
 use Rattle.format.proofs.check.Tie as tie
-use Rattle.format.proofs.check.Reads as reads
-use Rattle.format.proofs.check.Lts as lts
-use Rattle.format.proofs.check_records.Reads as check-records-reads
-use Rattle.format.proofs.contents.contents_ok.Reads as contents-ok-reads
-use Rattle.format.proofs.contents.size_ok.Reads as size-ok-reads
-use Rattle.words.proofs.word.Reads as word-reads
 
 -- an image of a good size has a header
 sized : (s : List ℕ) → sizeOk s ≡ true → 44 ≤ length s
 unfolding sizeOk
 sized s t = leb-true leastSize (length s) (both-left (leb leastSize (length s)) (leb (length s) mostSize) t)
 
--- src/lib.rt:143:9
-size-ok-requires : tie.Need-size-ok-requires
-size-ok-requires c κs = search needs
-
--- src/lib.rt:144:9
 returns : tie.Need-returns
 unfolding verdictOf
 returns c = simp (fails (c .before .size-ok .ensures) (c .if1 .taken))
 
--- src/lib.rt:146:8
 word-requires : tie.Need-word-requires
 word-requires c κs = omega (arith, sized _ (holds (c .before .size-ok .ensures) (c .if1 .left)))
 
--- src/lib.rt:147:9
 returns-2 : tie.Need-returns-2
 unfolding verdictOf
 returns-2 c =
     let t = c .before .before in
     simp (holds (t .before .size-ok .ensures) (t .if1 .left), ← c .before .word .ensures, ne-eqb _ _ (c .if2 .taken))
 
--- src/lib.rt:149:9
 contents-ok-requires : tie.Need-contents-ok-requires
 contents-ok-requires c κs =
     let t = c .before .before in
     sized _ (holds (t .before .size-ok .ensures) (t .if1 .left))
 
--- src/lib.rt:150:9
 returns-3 : tie.Need-returns-3
 unfolding verdictOf
 returns-3 c =
@@ -58,11 +43,9 @@ returns-3 c =
     let t = u .before .before in
     simp (holds (t .before .size-ok .ensures) (t .if1 .left), ← u .before .word .ensures, eq-eqb _ _ (u .if2 .left), fails (c .before .contents-ok .ensures) (c .if3 .taken))
 
--- src/lib.rt:152:5
 check-records-requires : tie.Need-check-records-requires
 check-records-requires c κs = holds (c .before .contents-ok .ensures) (c .if3 .left)
 
--- src/lib.rt:140:1
 returns-4 : tie.Need-returns-4
 unfolding verdictOf
 returns-4 c =
@@ -75,11 +58,5 @@ pub check-spec : {M : Type 1} → statement M
 check-spec =
     tie.close
     (tie.spec
-    size-ok-requires
-    returns
-    word-requires
-    returns-2
-    contents-ok-requires
-    returns-3
-    check-records-requires
-    returns-4)
+    (λ c κs. search needs) returns word-requires returns-2 contents-ok-requires
+    returns-3 check-records-requires returns-4)

@@ -13,12 +13,6 @@ use Rattle.format.proofs.Refusals.{part-small, sites-are, actions-are, 
 use borrow.Author.Needs.{needs}
 use Rattle.format.proofs.check_state.Statement.{statement}
 use Rattle.format.proofs.check_state.Tie as tie
-use Rattle.format.proofs.check_state.Reads as reads
-use Rattle.format.proofs.check_state.Lts as lts
-use Rattle.format.proofs.actions.first_bad_action.Reads as first-bad-action-reads
-use Rattle.format.proofs.contents.part.Reads as part-reads
-use Rattle.format.proofs.states.first_bad_state.Reads as first-bad-state-reads
-use Rattle.format.proofs.stores.first_bad_row.Reads as first-bad-row-reads
 
 -- past the tests of actions and of rows
 no-action : (c : tie.Else1) → ltb (badAction (stateIn (now (c .before .before .before .before .before .before .args .s)))) (length (actionsIn (bodyIn (now (c .before .before .before .before .before .before .args .s)) 4))) ≡ false
@@ -35,30 +29,12 @@ no-row c =
     not-below (row-is s (p .before .before .part .ensures .0) (p .part3 .ensures .0) (c .before .first-bad-row .ensures .0))
     (rows-are s (p .before .before .part .ensures .0) (p .part3 .ensures .0)) (c .if2 .left)
 
--- src/lib.rt:96:9
-part-requires : tie.Need-part-requires
-part-requires c κs = search needs
-
--- src/lib.rt:97:9
-part-requires-2 : tie.Need-part-requires-2
-part-requires-2 c κs = search needs
-
--- src/lib.rt:98:9
-part-requires-3 : tie.Need-part-requires-3
-part-requires-3 c κs = search needs
-
--- src/lib.rt:100:9
-first-bad-action-requires : tie.Need-first-bad-action-requires
-first-bad-action-requires c κs = search needs
-
--- src/lib.rt:102:35
 cast-t12 : tie.Need-cast-t12
 cast-t12 c =
     let p = c .before .before in
     let a = p .before .before .before .before in
     omega (arith, part-small (now (a .args .s)) (a .pre) 4 (p .before .part2 .ensures .0))
 
--- src/lib.rt:102:9
 returns : tie.Need-returns
 unfolding stateVerdict
 returns c =
@@ -67,18 +43,12 @@ returns c =
     let e = action-is s (p .before .before .part .ensures .0) (p .before .part2 .ensures .0) (c .before .first-bad-action .ensures .0) in
     simp (below e (actions-are s (p .before .before .part .ensures .0) (p .before .part2 .ensures .0)) (c .if1 .taken)) (cc)
 
--- src/lib.rt:104:9
-first-bad-row-requires : tie.Need-first-bad-row-requires
-first-bad-row-requires c κs = search needs
-
--- src/lib.rt:106:32
 cast-t13 : tie.Need-cast-t13
 cast-t13 c =
     let p = c .before .before .before .before in
     let a = p .before .before .before .before in
     omega (arith, part-small (now (a .args .s)) (a .pre) 5 (p .part3 .ensures .0))
 
--- src/lib.rt:106:9
 returns-2 : tie.Need-returns-2
 unfolding stateVerdict
 returns-2 c =
@@ -88,21 +58,18 @@ returns-2 c =
     let e = row-is s (p .before .before .part .ensures .0) (p .part3 .ensures .0) (c .before .first-bad-row .ensures .0) in
     simp (no-action t, below e (rows-are s (p .before .before .part .ensures .0) (p .part3 .ensures .0)) (c .if2 .taken)) (cc)
 
--- src/lib.rt:108:9
 first-bad-state-requires : tie.Need-first-bad-state-requires
 first-bad-state-requires c κs =
     let t = c .before .before in
     let p = t .before .before in
     then-ordered (now (p .before .before .before .before .args .s)) (p .before .before .part .ensures .0) (p .before .part2 .ensures .0) (no-action t)
 
--- src/lib.rt:110:34
 cast-t14 : tie.Need-cast-t14
 cast-t14 c =
     let p = c .before .before .before .before .before .before in
     let a = p .before .before .before .before in
     omega (arith, part-small (now (a .args .s)) (a .pre) 1 (p .before .before .part .ensures .0))
 
--- src/lib.rt:110:9
 returns-3 : tie.Need-returns-3
 unfolding stateVerdict
 returns-3 c =
@@ -113,7 +80,6 @@ returns-3 c =
     let e = state-is s (p .before .before .part .ensures .0) (p .before .part2 .ensures .0) (c .before .first-bad-state .ensures .0) in
     simp (no-action t, no-row u, below e (sites-are s (p .before .before .part .ensures .0)) (c .if3 .taken)) (cc)
 
--- src/lib.rt:92:1
 returns-4 : tie.Need-returns-4
 unfolding stateVerdict
 returns-4 c =
@@ -128,16 +94,6 @@ pub check-state-spec : {M : Type 1} → statement M
 check-state-spec =
     tie.close
     (tie.spec
-    part-requires
-    part-requires-2
-    part-requires-3
-    first-bad-action-requires
-    cast-t12
-    returns
-    first-bad-row-requires
-    cast-t13
-    returns-2
-    first-bad-state-requires
-    cast-t14
-    returns-3
-    returns-4)
+    (λ c κs. search needs) (λ c κs. search needs) (λ c κs. search needs) (λ c κs. search needs) cast-t12
+    returns (λ c κs. search needs) cast-t13 returns-2 first-bad-state-requires
+    cast-t14 returns-3 returns-4)

@@ -3,13 +3,11 @@ use mathlib.Core.Path.{refl}
 use Rattle.format.specs.Verdict.{sizeOk}
 use Rattle.format.proofs.contents.size_ok.Statement.{statement}
 use Rattle.format.proofs.contents.size_ok.Tie as tie
-use Rattle.format.proofs.contents.size_ok.Reads as reads
-use Rattle.format.proofs.contents.size_ok.Lts as lts
 
--- src/contents.rt:38:1
 returns : tie.Need-returns
 unfolding sizeOk
 returns c = refl
 
 pub size-ok-spec : {M : Type 1} → statement M
-size-ok-spec = tie.close (tie.spec returns)
+size-ok-spec = tie.close (tie.spec
+    returns)
