@@ -1,22 +1,23 @@
 -- What fields bind, as a set of the eight variables: a list of eight is built of its elements, so a set with one more variable, or with those
 -- of four fields, is told element by element. Assumes nothing.
 use mathlib.Core.Path.{_≡_, refl, sym, ap, _∙_}
-use mathlib.Core.Bool.{Bool, true, false, cond, not, _&&_, _||_, or-assoc, or-false, or-true, and-true}
+use mathlib.Core.Bool.{Bool, true, false, _&&_, _||_, or-assoc, or-false, or-true, and-true}
 use mathlib.Core.List.{List, [], _∷_}
-use Prim.Native.Nat.{ℕ, zero, suc, _≤_, _<_}
+use Prim.Native.Nat.{ℕ, zero, suc, _<_}
 use native.Mathlib.Omega.{arith}
 use lib.Dec.{ltb, eqb}
 use lib.ListN.{length, getD, take, set, length-set}
 use lib.Seq.{getD-set-same, getD-set-other}
-use borrow.Author.Tests.{eqb-true, eqb-false, ltb-true, ltb-false, lt-ltb, eq-eqb}
-use Rattle.words.specs.Lists.{all, some}
+use borrow.Author.Tests.{eqb-true, eqb-false, ltb-true, ltb-false, lt-ltb}
+use Rattle.words.specs.Lists.{allOf, all, some}
 use Rattle.words.specs.Tables.{build}
 use Rattle.words.proofs.Numbers.{written}
 use Rattle.words.proofs.Truth.{both-left, both-right}
-use Rattle.words.proofs.Tables.{length-build, getD-build, build-same, build-list}
+use Rattle.words.proofs.Tables.{build-same, build-list}
+use Rattle.net.specs.Records.{noOperand}
 use Rattle.net.specs.declared.Operand.{Operand}
 use Rattle.rulebook.specs.Parts.{speaks}
-use Rattle.format.specs.Variables.{boundIf, boundToo}
+use Rattle.format.specs.Steps.{boundIf, boundToo, partOk, partsOk}
 
 -- ---- a list of eight is what a rule builds that gives its elements
 pub built : (bound : List Bool) (f : ℕ → Bool) → length bound ≡ 8 → ((v : ℕ) → v < 8 → getD bound v false ≡ f v) → bound ≡ build 8 f
@@ -75,7 +76,17 @@ bind-four bound n a b c d =
     (λ v. getD bound v false || some (speaks 2 v) (take n (a ∷ b ∷ c ∷ d ∷ [])))
     (λ v h. rw (some-four (speaks 2 v) n a b c d) (simp or-assoc))
 
--- ---- four tests
-pub all-four : {A : Type 0} (p : A → Bool) (d : A) (l : List A) → length l ≡ 4
-    → all p l ≡ (p (getD l 0 d) && (p (getD l 1 d) && (p (getD l 2 d) && p (getD l 3 d))))
-all-four p d l four = ap (all p) (sym (written d 4 l four)) ∙ simp and-true
+-- ---- the parts of an action: its target and its four fields
+abbrev pub partRules : List Bool → Operand → List Operand → List Bool
+partRules bound target f =
+    partOk bound f target
+    ∷ partOk bound f (getD f 0 noOperand)
+    ∷ partOk bound f (getD f 1 noOperand)
+    ∷ partOk bound f (getD f 2 noOperand)
+    ∷ partOk bound f (getD f 3 noOperand)
+    ∷ []
+
+pub part-rules : (bound : List Bool) (target : Operand) (f : List Operand) → length f ≡ 4 → allOf (partRules bound target f) ≡ partsOk bound target f
+part-rules bound target f four =
+    let p = partOk bound f in
+    sym (ap (λ (b : Bool). p target && b) (ap (all p) (sym (written noOperand 4 f four)) ∙ simp and-true))

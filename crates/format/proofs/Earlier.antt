@@ -4,15 +4,15 @@ use mathlib.Core.Path.{_≡_, refl, sym, ap, _∙_}
 use mathlib.Core.Bool.{Bool, true, false, cond, not, _&&_, and-assoc}
 use mathlib.Core.List.{List, [], _∷_, _++_, map}
 use mathlib.Core.Logic.{⊎-elim}
-use Prim.Native.Nat.{ℕ, zero, suc, _+_, _≤_, _<_}
+use Prim.Native.Nat.{ℕ, zero, _+_, _≤_, _<_}
 use native.Mathlib.Nat.{not-suc-le-zero, le-of-suc-le-suc, eq-or-lt-of-le}
 use native.Mathlib.Numerals.{add-one}
 use native.Mathlib.Omega.{arith}
-use lib.Dec.{T, ltb, leb, eqb, leb→le}
+use lib.Dec.{T, ltb, eqb, leb→le}
 use lib.ListN.{length, getD, take}
 use lib.Seq.{getD-take, length-take-le, take-suc}
 use borrow.Author.Tests.{eqb-true, eqb-false, ne-eqb, eq-eqb}
-use Rattle.words.specs.Lists.{firstBad, every, before, allOf, those}
+use Rattle.words.specs.Lists.{firstBad, every, before, allOf}
 use Rattle.words.proofs.Truth.{both-T, is-T, part}
 use Rattle.words.proofs.First.{first-none, first-more}
 use Rattle.words.proofs.Groups.{those-none, those-append}
@@ -21,7 +21,7 @@ use Rattle.net.specs.Net.{programLimit, actionAt, program, fieldsOf}
 use Rattle.net.specs.declared.Action.{Action}
 use Rattle.rulebook.specs.Parts.{tagsOf, operandOk, operandsOk, countOk, capabilityOk, ownerOk, roomOk}
 use Rattle.format.specs.Format.{actionRules, actionOk, variableOk}
-use Rattle.format.specs.Variables.{boundBy, boundToo, partsOk, formRules}
+use Rattle.format.specs.Steps.{boundBy, boundToo, partsOk, formRules}
 use Rattle.format.proofs.Order.{never-fell, owner-of}
 use Rattle.format.proofs.Parts.{parts}
 use Rattle.format.proofs.Programs.{bound-more}

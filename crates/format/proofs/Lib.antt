@@ -8,3 +8,4 @@ pub mod Fields
 pub mod Verdicts
 pub mod Ordered
 pub mod Rows
+pub mod Refusals

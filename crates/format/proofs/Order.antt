@@ -1,12 +1,12 @@
 -- Records in the order of their owners: owners that never fall, record by record, as an order of the list, and of the first bytes of the
 -- records, in which a search by halving finds an owner's records. Assumes nothing.
 use mathlib.Core.Path.{_≡_, refl, sym, ap, _∙_}
-use mathlib.Core.Bool.{Bool, true, false, cond}
+use mathlib.Core.Bool.{Bool, true}
 use mathlib.Core.List.{List, map}
 use Prim.Native.Nat.{ℕ, zero, suc, _*_, _/_, _≤_, _<_}
 use native.Mathlib.Omega.{arith}
-use lib.Dec.{T, ltb, leb, leb→le}
-use lib.ListN.{length, getD, length-map, List·getD-map}
+use lib.Dec.{T, ltb, leb→le}
+use lib.ListN.{length, getD, List·getD-map}
 use Rattle.words.specs.Lists.{firstBad, before}
 use Rattle.words.specs.Tables.{tableOf, countBelow}
 use Rattle.words.proofs.Truth.{both-T}

@@ -1,12 +1,10 @@
 -- The owners of good aspects, actions and rows never fall, in the list and in the first bytes of the records. Assumes nothing.
 use mathlib.Core.Path.{_≡_, refl}
-use mathlib.Core.Bool.{Bool, true}
-use mathlib.Core.List.{List, map}
-use Prim.Native.Nat.{ℕ, _<_}
+use mathlib.Core.List.{List}
+use Prim.Native.Nat.{ℕ}
 use lib.Dec.{T}
-use lib.ListN.{length, getD}
+use lib.ListN.{length}
 use Rattle.words.specs.Lists.{every}
-use Rattle.words.specs.Tables.{tableOf}
 use Rattle.words.proofs.Truth.{is-T, part}
 use Rattle.words.proofs.First.{every-at}
 use Rattle.words.proofs.Groups.{Sorted}
@@ -17,7 +15,6 @@ use Rattle.net.specs.declared.Node.{Node}
 use Rattle.net.specs.declared.Aspect.{Aspect}
 use Rattle.net.specs.declared.Action.{Action}
 use Rattle.net.specs.declared.Row.{Row}
-use Rattle.rulebook.specs.Parts.{ownerOk}
 use Rattle.rulebook.specs.Rulebook.{aspectRules, aspectOk}
 use Rattle.format.specs.Format.{actionRules, actionOk, rowRules, rowOk}
 use Rattle.format.specs.Verdict.{verdictOf}

@@ -3,14 +3,14 @@
 use mathlib.Core.Path.{_≡_, refl, sym, ap, _∙_}
 use mathlib.Core.Bool.{Bool, true, false, cond, not, _&&_, _||_}
 use mathlib.Core.List.{List, [], _∷_}
-use Prim.Native.Nat.{ℕ, zero, suc, _+_, _≤_, _<_}
+use Prim.Native.Nat.{ℕ, zero, suc, _+_, _<_}
 use native.Mathlib.Nat.{zero-add}
 use native.Mathlib.Omega.{arith}
-use lib.Dec.{T, ltb, leb, eqb, ltb→lt, lt→ltb, leb→le, le→leb, eqb→eq, eqb-refl}
-use lib.ListN.{length, getD, take, drop, take-append-drop}
+use lib.Dec.{T, ltb, leb, eqb, ltb→lt, le→leb, eqb→eq, eqb-refl}
+use lib.ListN.{getD, take, drop, take-append-drop}
 use borrow.Author.Tests.{eqb-true, ne-eqb, not-false}
 use Rattle.words.specs.Lists.{every, all, some, count}
-use Rattle.words.proofs.Truth.{no, both-T, T-both, is-T, T-is, so, same-truth, or-left, or-right}
+use Rattle.words.proofs.Truth.{both-T, T-both, is-T, T-is, same-truth, or-left, or-right}
 use Rattle.words.proofs.First.{every-at, every-of}
 use Rattle.words.proofs.Lists.{all-take, all-weaken, count-append}
 use Rattle.words.proofs.Tables.{getD-build}
@@ -18,7 +18,7 @@ use Rattle.net.specs.declared.Operand.{Operand}
 use Rattle.net.specs.declared.Action.{Action}
 use Rattle.rulebook.specs.Parts.{operandOk, operandsOk, unused, speaks}
 use Rattle.format.specs.Format.{binds, partsOf, variableOk}
-use Rattle.format.specs.Variables.{boundBy, partOk, partsOk}
+use Rattle.format.specs.Steps.{boundBy, partOk, partsOk}
 
 -- ---- elements of a list that pass a test
 module _ {A : Type 0} where

@@ -13,7 +13,7 @@ use Rattle.net.specs.Net.{fieldsOf}
 use Rattle.net.specs.declared.Action.{Action}
 use Rattle.rulebook.specs.Parts.{speaks}
 use Rattle.format.specs.Format.{binds}
-use Rattle.format.specs.Variables.{boundBy, boundToo}
+use Rattle.format.specs.Steps.{boundBy, boundToo}
 
 pub binds-more : (p : List Action) (x : Action) (v : ℕ) → binds (p ++ (x ∷ [])) v ≡ (binds p v || some (speaks 2 v) (fieldsOf x))
 binds-more p x v =

@@ -1,32 +1,31 @@
 -- An image is accepted exactly if it is the image of a well-formed net, and that net is the net of the image and no other: each part of the
 -- verdict is a rule of the net, and what fits its place in an image is read back. Assumes nothing.
 use mathlib.Core.Path.{_≡_, refl, sym, ap, subst, _∙_}
-use mathlib.Core.Bool.{Bool, true, false, cond, _&&_}
+use mathlib.Core.Bool.{Bool, true, false, cond}
 use mathlib.Core.List.{List}
-use Prim.Native.Nat.{ℕ, _≤_}
+use Prim.Native.Nat.{ℕ}
 use native.Mathlib.Omega.{arith}
-use lib.Dec.{T, ltb, leb, eqb, leb→le, le→leb, eqb→eq}
+use lib.Dec.{T, ltb, eqb, leb→le, le→leb, eqb→eq}
 use lib.ListN.{length}
 use borrow.Author.Tests.{ltb-false, le-ltb, eq-eqb, eqb-true, le-leb}
-use Rattle.words.specs.Lists.{firstBad, every, allOf, all}
+use Rattle.words.specs.Lists.{firstBad, every}
 use Rattle.words.specs.Bytes.{Bytes, u16At}
-use Rattle.words.proofs.Truth.{no, part, joined, _also_, is-T, T-is, both-left}
+use Rattle.words.proofs.Truth.{no, part, joined, _also_, is-T}
 use Rattle.words.proofs.First.{first-le}
-use Rattle.net.specs.Records.{siteFits, nodeFits, aspectFits, actionFits, rowFits}
 use Rattle.net.specs.Net.{State, Rules, Net, mostSites, mostNodes, mostAspects, mostActions, mostRows, names}
 use Rattle.net.specs.Image.{contentsOk, stateIn, rulesIn, netOf, imageOf}
 use Rattle.net.proofs.Images.{Fits, contents-of-image, edition-of-image, least-image, most-image, net-of-image, fits-of-image, image-of-net}
 use Rattle.rulebook.specs.Rulebook.{nodeOk, aspectOk}
 use Rattle.format.specs.Format.{siteOk, actionOk, rowOk, stateOk, countRules, shapeRules, netRules, wellFormed}
-use Rattle.format.specs.Verdict.{badSite, badNode, badAspect, badAction, badRow, badState, recordsVerdict, leastSize, mostSize, sizeOk, verdictOf}
+use Rattle.format.specs.Verdict.{isAccepted, badSite, badNode, badAspect, badAction, badRow, badState, recordsVerdict, leastSize, mostSize, sizeOk, verdictOf}
 use Rattle.format.specs.declared.Verdict.{Verdict}
-use Rattle.format.specs.declared.Verdict.the-variants.{Accepted, Size, Edition, Contents, BadSite, BadNode, BadAspect, BadAction, BadRow, BadState}
+use Rattle.format.specs.declared.Verdict.the-variants.{Accepted, Size, Edition, Contents, BadSite, BadNode, BadAspect, BadAction, BadRow, BadState, Small}
 
 -- ---- no record is bad
-none-bad : (ok : ℕ → Bool) (n : ℕ) → T (every ok n) → ltb (firstBad ok n) n ≡ false
+pub none-bad : (ok : ℕ → Bool) (n : ℕ) → T (every ok n) → ltb (firstBad ok n) n ≡ false
 none-bad ok n t = le-ltb (firstBad ok n) n (omega (arith, eqb→eq (firstBad ok n) n t))
 
-bad-none : (ok : ℕ → Bool) (n : ℕ) → ltb (firstBad ok n) n ≡ false → T (every ok n)
+pub bad-none : (ok : ℕ → Bool) (n : ℕ) → ltb (firstBad ok n) n ≡ false → T (every ok n)
 bad-none ok n e = is-T (every ok n) (eq-eqb (firstBad ok n) n (omega (arith, ltb-false (firstBad ok n) n e, first-le ok n)))
 
 -- a test that refuses, passed
@@ -130,6 +129,20 @@ module _ (n : Net) where
       also g .actions
       also g .rows
       also g .states)
+
+-- ---- the number 0 is that of acceptance alone
+pub accepts : (v : Verdict) → isAccepted v ≡ true → v ≡ Accepted
+accepts Accepted e = refl
+accepts Size e = no (cc)
+accepts Edition e = no (cc)
+accepts Contents e = no (cc)
+accepts (BadSite k) e = no (cc)
+accepts (BadNode k) e = no (cc)
+accepts (BadAspect k) e = no (cc)
+accepts (BadAction k) e = no (cc)
+accepts (BadRow k) e = no (cc)
+accepts (BadState k) e = no (cc)
+accepts Small e = no (cc)
 
 -- ---- an image is accepted exactly if its size, its edition and its contents are right and every record is good
 module _ (b : List ℕ) where

@@ -1,3 +1,3 @@
 pub mod Format
 pub mod Verdict
-pub mod Variables
+pub mod Steps

@@ -10,13 +10,13 @@ ghost use Rattle.words.specs.Lists.{firstBad, before, allOf};
 ghost use Rattle.net.specs.Image.{actionsIn};
 ghost use Rattle.rulebook.specs.Parts.{ownersIn, ownerOk, roomOk};
 ghost use Rattle.format.specs.Format.{actionOk};
-ghost use Rattle.format.specs.Variables.{boundBy, formRules};
+ghost use Rattle.format.specs.Steps.{boundBy, formRules};
 use crate::contents::ACTION_WIDTH;
 use crate::owners::place_ok;
 use crate::variables::bound_too;
 use crate::variables::parts_ok;
-use net::action_at;
 use net::Action;
+use net::action_at;
 use rulebook::capability_ok;
 use rulebook::count_ok;
 use rulebook::operand_ok;
@@ -44,7 +44,8 @@ fn form_ok(bound: [bool; 8], x: Action) -> bool
         && (capability_ok(x.capability)
             && (count_ok(x.count)
                 && (operand_ok(x.target, false, false, false)
-                    && (operands_ok(f, x.count, x.capability != 1, false, false) && parts_ok(bound, x.target, f)))))
+                    && (operands_ok(f, x.count, x.capability != 1, false, false)
+                        && parts_ok(bound, x.target, f)))))
 }
 
 // Whether action k is good, after actions whose owners never fall and that bind `bound` where they are of its program.

@@ -5,19 +5,66 @@ ghost use Prim.Native.Nat.{_+_, _^_, _≤_, _<_};
 ghost use lib.ListN.{length};
 ghost use denote.Ref.{ptr};
 ghost use Rattle.net.specs.Image.{widthOf, mostOf, leastOf, countIn, offsetIn, lengthIn, startIn, endIn, entryOk, contentsOk, bodyIn};
+ghost use Rattle.format.specs.Verdict.{sizeOk};
 use words::long_at;
 use words::size_at;
 
 // The bytes of a record of each kind.
 pub const SITE_WIDTH: usize = 32;
+
 pub const NODE_WIDTH: usize = 24;
+
 pub const ASPECT_WIDTH: usize = 32;
+
 pub const ACTION_WIDTH: usize = 24;
+
 pub const ROW_WIDTH: usize = 10;
 
-// The width of each kind's records, and the most records of it; kinds count from 1.
-const WIDTH: [usize; 6] = [0, SITE_WIDTH, NODE_WIDTH, ASPECT_WIDTH, ACTION_WIDTH, ROW_WIDTH];
-const MOST: [usize; 6] = [0, 32, 1024, 256, 512, 512];
+// The most records of each kind.
+const MOST_SITES: usize = 32;
+
+const MOST_NODES: usize = 1024;
+
+const MOST_ASPECTS: usize = 256;
+
+const MOST_ACTIONS: usize = 512;
+
+const MOST_ROWS: usize = 512;
+
+// The bytes before the first body, and the most bytes of an image.
+const HEADER: usize = 44;
+
+const MOST_BYTES: usize = HEADER
+    + (SITE_WIDTH * MOST_SITES
+        + (NODE_WIDTH * MOST_NODES
+            + (ASPECT_WIDTH * MOST_ASPECTS
+                + (ACTION_WIDTH * MOST_ACTIONS + ROW_WIDTH * MOST_ROWS))));
+
+// Both by kind; kinds count from 1.
+const WIDTH: [usize; 6] = [
+    0,
+    SITE_WIDTH,
+    NODE_WIDTH,
+    ASPECT_WIDTH,
+    ACTION_WIDTH,
+    ROW_WIDTH,
+];
+
+const MOST: [usize; 6] = [
+    0,
+    MOST_SITES,
+    MOST_NODES,
+    MOST_ASPECTS,
+    MOST_ACTIONS,
+    MOST_ROWS,
+];
+
+// Whether an image is as long as one can be: it has a header, and no more than the most records of every kind.
+pub fn size_ok(s: &[u8]) -> bool
+    ensures { λ r. ⌜ r ≡ sizeOk (now (s .entry)) ⌝ }
+{
+    (HEADER <= s.len()) & (s.len() <= MOST_BYTES)
+}
 
 // The bytes of a record of a kind.
 fn width(k: usize) -> usize
@@ -72,7 +119,7 @@ fn start(s: &[u8], k: usize) -> usize
     ensures { λ r. ⌜ (r ≡ startIn (now (s .entry)) k) × (r < 2 ^ 33) ⌝ }
 {
     if k == 1 {
-        return 44;
+        return HEADER;
     }
     offset(s, k - 1) + size(s, k - 1)
 }
@@ -91,7 +138,8 @@ fn entry_ok(s: &[u8], k: usize) -> bool
     ensures { λ r. ⌜ r ≡ entryOk (now (s .entry)) k ⌝ }
 {
     let n = count(s, k);
-    (size_at(s, 8 * k - 4) == k) & ((least(k) <= n) & ((n <= most(k)) & (offset(s, k) == start(s, k))))
+    (size_at(s, 8 * k - 4) == k)
+        & ((least(k) <= n) & ((n <= most(k)) & (offset(s, k) == start(s, k))))
 }
 
 // Whether the contents are in order: five entries that are right, and the image ends with the last body.
@@ -101,7 +149,8 @@ pub fn contents_ok(s: &[u8]) -> bool
 {
     (size_at(s, 2) == 5)
         & (entry_ok(s, 1)
-            & (entry_ok(s, 2) & (entry_ok(s, 3) & (entry_ok(s, 4) & (entry_ok(s, 5) & (end(s) == s.len()))))))
+            & (entry_ok(s, 2)
+                & (entry_ok(s, 3) & (entry_ok(s, 4) & (entry_ok(s, 5) & (end(s) == s.len()))))))
 }
 
 // The body of a kind: that part of an image whose contents are in order.

@@ -10,8 +10,8 @@ ghost use Rattle.net.specs.Image.{sitesIn};
 ghost use Rattle.format.specs.Format.{siteOk};
 use crate::contents::SITE_WIDTH;
 use level::Level;
-use net::site_at;
 use net::Site;
+use net::site_at;
 
 // Whether a site is good, after a site with the name `last`.
 fn site_ok(last: u16, x: Site) -> bool

@@ -7,13 +7,13 @@ ghost use lib.ListN.{length, getD, take, drop};
 ghost use Rattle.words.specs.Lists.{firstBad, every, allOf};
 ghost use Rattle.net.specs.Image.{sitesIn, actionsIn};
 ghost use Rattle.format.specs.Format.{placed, stateOk};
-ghost use Rattle.format.specs.Variables.{boundBy};
+ghost use Rattle.format.specs.Steps.{boundBy};
 use crate::contents::ACTION_WIDTH;
 use crate::contents::SITE_WIDTH;
 use crate::variables::bound_too;
+use net::Site;
 use net::action_at;
 use net::site_at;
-use net::Site;
 use words::count_below;
 
 // The variables that n actions bind, from action `from` on.

@@ -10,12 +10,12 @@ ghost use Rattle.rulebook.specs.Parts.{countOk, ownersIn, ownerOk, roomOk};
 ghost use Rattle.format.specs.Format.{fieldsOk, rowOk};
 use crate::contents::ROW_WIDTH;
 use crate::owners::place_ok;
-use net::row_at;
 use net::Row;
+use net::row_at;
 use rulebook::count_ok;
 
 // The most rows of one site.
-const STORE_LIMIT: usize = 16;
+pub const STORE_LIMIT: usize = 16;
 
 // Whether field j of a row of n fields is as it has to be.
 fn field_ok(n: u8, j: u8, v: u16) -> bool

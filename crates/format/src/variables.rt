@@ -5,7 +5,7 @@ ghost use Prim.Native.Nat.{_≤_};
 ghost use lib.ListN.{getD, take};
 ghost use Rattle.words.specs.Lists.{count};
 ghost use Rattle.rulebook.specs.Parts.{speaks};
-ghost use Rattle.format.specs.Variables.{boundIf, boundToo, partOk, partsOk};
+ghost use Rattle.format.specs.Steps.{boundIf, boundToo, partOk, partsOk};
 use net::Operand;
 
 // Whether a set has variable v.

@@ -1,6 +1,6 @@
 -- `format::actions::first_bad_action` meets its contract: what is known of the actions before action k is `Earlier`. Assumes nothing.
 use denote.Ref.{now}
-use mathlib.Core.Path.{_≡_, refl, sym, ap, _∙_}
+use mathlib.Core.Path.{_≡_, refl, sym, _∙_}
 use mathlib.Core.Bool.{Bool, true, cond, _&&_}
 use mathlib.Core.List.{List, []}
 use Prim.Native.Nat.{ℕ, _+_, _*_, _/_, _-_, _≤_, _<_}
@@ -8,7 +8,7 @@ use native.Mathlib.Omega.{arith}
 use borrow.Author.Needs.{needs}
 use lib.Dec.{eqb}
 use lib.ListN.{length, getD}
-use Rattle.words.specs.Lists.{firstBad, before, allOf}
+use Rattle.words.specs.Lists.{before, allOf}
 use Rattle.words.proofs.First.{first-stops}
 use Rattle.words.proofs.Tables.{table-length, table-at}
 use Rattle.words.proofs.Truth.{fails, holds}
@@ -19,17 +19,11 @@ use Rattle.net.specs.declared.Action.{Action}
 use Rattle.rulebook.specs.Parts.{ownersIn, ownerOk, roomOk}
 use Rattle.rulebook.proofs.Owners.{owners-of}
 use Rattle.format.specs.Format.{actionOk}
-use Rattle.format.specs.Variables.{boundBy, boundToo, formRules}
+use Rattle.format.specs.Steps.{boundBy, boundToo, formRules}
 use Rattle.format.proofs.Earlier.{Earlier, owners, rules-with, in-order, bound-now, earlier-more, earlier-none}
 use Rattle.format.proofs.Programs.{bound-none}
 use Rattle.format.proofs.actions.first_bad_action.Statement.{statement}
 use Rattle.format.proofs.actions.first_bad_action.Tie as tie
-use Rattle.format.proofs.actions.first_bad_action.Reads as reads
-use Rattle.format.proofs.actions.first_bad_action.Lts as lts
-use Rattle.format.proofs.actions.action_ok.Reads as action-ok-reads
-use Rattle.format.proofs.actions.bound_for.Reads as bound-for-reads
-use Rattle.format.proofs.variables.bound_too.Reads as bound-too-reads
-use Rattle.net.proofs.action_at.Reads as action-at-reads
 
 module _ (s : List ℕ) (sites k last : ℕ) (bound : List Bool) (e : Earlier sites (actionsIn s) k last bound) (h : k < length s / actionWidth) where
   owners-are : owners (actionsIn s) ≡ ownersIn actionWidth s
@@ -63,30 +57,15 @@ Inv-loop actions sites n bound₀ last₀ k₀ bound last k = (k ≤ n) × Earli
 abbrev μ-loop : tie.MeasureT-loop
 μ-loop actions sites n bound₀ last₀ k₀ bound last k = n - k
 
--- src/actions.rt:66:5
 loop-holds : tie.Need-loop-holds Inv-loop μ-loop
 loop-holds c = (omega arith, rw (← bound-none) (earlier-none _ _))
 
--- src/actions.rt:67:36
-mul-action-at : tie.Need-mul-action-at Inv-loop μ-loop
-mul-action-at c = omega arith
-
--- src/actions.rt:67:13
-action-at-requires : tie.Need-action-at-requires Inv-loop μ-loop
-action-at-requires c κs = omega arith
-
--- src/actions.rt:68:13
-bound-for-requires : tie.Need-bound-for-requires Inv-loop μ-loop
-bound-for-requires c κs = search needs
-
--- src/actions.rt:69:13
 action-ok-requires : tie.Need-action-ok-requires Inv-loop μ-loop
 action-ok-requires c κs =
     let l = c .before .before .before in
     let a = l .before .before .args in
     (omega arith, ordered (now (a .actions)) (a .sites) (l .loop .k) (l .loop .last) (l .loop .bound) (l .loop .inv .1) (omega arith))
 
--- src/actions.rt:70:13
 returns : tie.Need-returns Inv-loop μ-loop
 returns c =
     let l = c .before .before .before .before .before in
@@ -98,19 +77,6 @@ returns c =
     tested s (a .sites) k (l .loop .last) (l .loop .bound) (l .loop .inv .1) (omega arith) (c .before .before .before .action-at .ensures) (c .before .before .bound-for .ensures) (c .before .action-ok .ensures) in
     (sym (first-stops (actionOk (a .sites) (actionsIn s)) k (length (actionsIn s)) (l .loop .inv .1 .good) (fails e (c .if1 .taken)) (omega arith)), omega arith)
 
--- src/actions.rt:73:13
-bound-too-requires : tie.Need-bound-too-requires Inv-loop μ-loop
-bound-too-requires c κs = search needs
-
--- src/actions.rt:76:9
-add-k : tie.Need-add-k Inv-loop μ-loop
-add-k c = omega arith
-
--- src/actions.rt:66:5
-loop-less : tie.Need-loop-less Inv-loop μ-loop
-loop-less c = omega arith
-
--- src/actions.rt:66:5
 loop-again : tie.Need-loop-again Inv-loop μ-loop
 loop-again c =
     let t = c .before .before in
@@ -123,7 +89,6 @@ loop-again c =
     let e = tested s (a .sites) k (l .loop .last) (l .loop .bound) (l .loop .inv .1) (omega arith) x b (t .before .action-ok .ensures) in
     (omega arith, next s (a .sites) k (l .loop .last) (l .loop .bound) (l .loop .inv .1) (omega arith) (holds e (t .if1 .left)) x b (c .bound-too .ensures))
 
--- src/actions.rt:59:1
 returns-2 : tie.Need-returns-2 Inv-loop μ-loop
 returns-2 c =
     let l = c .before .loop in
@@ -137,16 +102,6 @@ pub first-bad-action-spec : {M : Type 1} → statement M
 first-bad-action-spec =
     tie.close
     (tie.spec
-    Inv-loop
-    μ-loop
-    loop-holds
-    mul-action-at
-    action-at-requires
-    bound-for-requires
-    action-ok-requires
-    returns
-    bound-too-requires
-    add-k
-    loop-less
-    loop-again
-    returns-2)
+    Inv-loop μ-loop loop-holds (λ c. omega arith) (λ c κs. omega arith)
+    (λ c κs. search needs) action-ok-requires returns (λ c κs. search needs) (λ c. omega arith)
+    (λ c. omega arith) loop-again returns-2)

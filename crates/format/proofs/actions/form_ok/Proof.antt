@@ -2,40 +2,12 @@
 use mathlib.Core.Path.{refl, sym}
 use mathlib.Core.Bool.{true}
 use borrow.Author.Tests.{eq-eqb, ne-eqb}
-use Rattle.rulebook.proofs.Chains.{Tried, last, on, stop, tried}
-use Rattle.format.specs.Variables.{formRules}
+use Rattle.rulebook.proofs.Chains.{last, on, stop, tried}
+use Rattle.format.specs.Steps.{formRules}
 use borrow.Author.Needs.{needs}
 use Rattle.format.proofs.actions.form_ok.Statement.{statement}
 use Rattle.format.proofs.actions.form_ok.Tie as tie
-use Rattle.format.proofs.actions.form_ok.Reads as reads
-use Rattle.format.proofs.actions.form_ok.Lts as lts
-use Rattle.format.proofs.variables.parts_ok.Reads as parts-ok-reads
-use Rattle.rulebook.proofs.capability_ok.Reads as capability-ok-reads
-use Rattle.rulebook.proofs.count_ok.Reads as count-ok-reads
-use Rattle.rulebook.proofs.operand_ok.Reads as operand-ok-reads
-use Rattle.rulebook.proofs.operands_ok.Reads as operands-ok-reads
 
--- src/actions.rt:44:13
-capability-ok-requires : tie.Need-capability-ok-requires
-capability-ok-requires c κs = search needs
-
--- src/actions.rt:45:17
-count-ok-requires : tie.Need-count-ok-requires
-count-ok-requires c κs = search needs
-
--- src/actions.rt:46:21
-operand-ok-requires : tie.Need-operand-ok-requires
-operand-ok-requires c κs = search needs
-
--- src/actions.rt:47:25
-operands-ok-requires : tie.Need-operands-ok-requires
-operands-ok-requires c κs = search needs
-
--- src/actions.rt:47:85
-parts-ok-requires : tie.Need-parts-ok-requires
-parts-ok-requires c κs = search needs
-
--- src/actions.rt:39:1
 returns : tie.Need-returns
 returns c =
     let t5 = c .before in
@@ -52,7 +24,6 @@ returns c =
     (on (t5 .before .operands-ok .ensures) (t5 .if5 .taken)
     (last (c .parts-ok .ensures)))))))
 
--- src/actions.rt:39:1
 returns-2 : tie.Need-returns-2
 returns-2 c =
     let t4 = c .before .before .before in
@@ -67,7 +38,6 @@ returns-2 c =
     (on (t4 .before .operand-ok .ensures) (t4 .if4 .taken)
     (stop (c .before .operands-ok .ensures) (c .if5 .left))))))
 
--- src/actions.rt:39:1
 returns-3 : tie.Need-returns-3
 returns-3 c =
     let t3 = c .before .before in
@@ -80,7 +50,6 @@ returns-3 c =
     (on (t3 .before .count-ok .ensures) (t3 .if3 .taken)
     (stop (c .before .operand-ok .ensures) (c .if4 .left)))))
 
--- src/actions.rt:39:1
 returns-4 : tie.Need-returns-4
 returns-4 c =
     let t2 = c .before .before in
@@ -91,7 +60,6 @@ returns-4 c =
     (on (t2 .before .capability-ok .ensures) (t2 .if2 .taken)
     (stop (c .before .count-ok .ensures) (c .if3 .left))))
 
--- src/actions.rt:39:1
 returns-5 : tie.Need-returns-5
 returns-5 c =
     let t1 = c .before .before in
@@ -100,7 +68,6 @@ returns-5 c =
     (on {r = true} (sym (eq-eqb _ _ (t1 .if1 .taken))) refl
     (stop (c .before .capability-ok .ensures) (c .if2 .left)))
 
--- src/actions.rt:39:1
 returns-6 : tie.Need-returns-6
 returns-6 c =
     let a = c .before .before .before .args in
@@ -110,14 +77,6 @@ pub form-ok-spec : {M : Type 1} → statement M
 form-ok-spec =
     tie.close
     (tie.spec
-    capability-ok-requires
-    count-ok-requires
-    operand-ok-requires
-    operands-ok-requires
-    parts-ok-requires
-    returns
-    returns-2
-    returns-3
-    returns-4
-    returns-5
+    (λ c κs. search needs) (λ c κs. search needs) (λ c κs. search needs) (λ c κs. search needs) (λ c κs. search needs)
+    returns returns-2 returns-3 returns-4 returns-5
     returns-6)

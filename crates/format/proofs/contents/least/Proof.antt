@@ -2,16 +2,13 @@
 use borrow.Author.Tests.{eq-eqb, ne-eqb}
 use Rattle.format.proofs.contents.least.Statement.{statement}
 use Rattle.format.proofs.contents.least.Tie as tie
-use Rattle.format.proofs.contents.least.Reads as reads
-use Rattle.format.proofs.contents.least.Lts as lts
 
--- src/contents.rt:39:1
 returns : tie.Need-returns
 returns c = simp (eq-eqb _ _ (c .if1 .taken))
 
--- src/contents.rt:39:1
 returns-2 : tie.Need-returns-2
 returns-2 c = simp (ne-eqb _ _ (c .if1 .left))
 
 pub least-spec : {M : Type 1} → statement M
-least-spec = tie.close (tie.spec returns returns-2)
+least-spec = tie.close (tie.spec
+    returns returns-2)

@@ -3,7 +3,7 @@ use denote.Ref.{now}
 use mathlib.Core.Path.{_≡_, refl, sym, ap, _∙_}
 use mathlib.Core.Bool.{Bool, _&&_}
 use mathlib.Core.List.{List}
-use Prim.Native.Nat.{ℕ, _+_, _*_, _/_, _-_, _≤_, _<_}
+use Prim.Native.Nat.{ℕ, _*_, _/_, _-_, _≤_, _<_}
 use native.Mathlib.Numerals.{add-one}
 use native.Mathlib.Omega.{arith}
 use borrow.Author.Needs.{needs}
@@ -21,10 +21,6 @@ use Rattle.net.specs.Image.{sitesIn}
 use Rattle.format.specs.Format.{siteOk}
 use Rattle.format.proofs.sites.first_bad_site.Statement.{statement}
 use Rattle.format.proofs.sites.first_bad_site.Tie as tie
-use Rattle.format.proofs.sites.first_bad_site.Reads as reads
-use Rattle.format.proofs.sites.first_bad_site.Lts as lts
-use Rattle.format.proofs.sites.site_ok.Reads as site-ok-reads
-use Rattle.net.proofs.site_at.Reads as site-at-reads
 
 -- the name of site k, and the rules of site k, from its record
 module _ (s : List ℕ) (k : ℕ) (h : k < length s / siteWidth) where
@@ -46,23 +42,9 @@ Inv-loop sites n last₀ k₀ last k = (k ≤ n) × (last ≡ before (names (sit
 abbrev μ-loop : tie.MeasureT-loop
 μ-loop sites n last₀ k₀ last k = n - k
 
--- src/sites.rt:32:5
 loop-holds : tie.Need-loop-holds Inv-loop μ-loop
 loop-holds c = (omega arith, refl, first-none _)
 
--- src/sites.rt:33:32
-mul-site-at : tie.Need-mul-site-at Inv-loop μ-loop
-mul-site-at c = omega arith
-
--- src/sites.rt:33:13
-site-at-requires : tie.Need-site-at-requires Inv-loop μ-loop
-site-at-requires c κs = omega arith
-
--- src/sites.rt:34:13
-site-ok-requires : tie.Need-site-ok-requires Inv-loop μ-loop
-site-ok-requires c κs = search needs
-
--- src/sites.rt:35:13
 returns : tie.Need-returns Inv-loop μ-loop
 returns c =
     let l = c .before .before .before .before in
@@ -72,15 +54,6 @@ returns c =
     let e = tested s k (omega arith) (l .loop .inv .1) (c .before .before .site-at .ensures) (c .before .site-ok .ensures) in
     (sym (first-stops (siteOk (sitesIn s)) k (length (sitesIn s)) (l .loop .inv .2) (fails e (c .if1 .taken)) (omega arith)), omega arith)
 
--- src/sites.rt:38:9
-add-k : tie.Need-add-k Inv-loop μ-loop
-add-k c = omega arith
-
--- src/sites.rt:32:5
-loop-less : tie.Need-loop-less Inv-loop μ-loop
-loop-less c = omega arith
-
--- src/sites.rt:32:5
 loop-again : tie.Need-loop-again Inv-loop μ-loop
 loop-again c =
     let l = c .before .before .before .before in
@@ -89,7 +62,6 @@ loop-again c =
     let e = tested s k (omega arith) (l .loop .inv .1) (c .before .before .site-at .ensures) (c .before .site-ok .ensures) in
     (omega arith, rw add-one (cc (name-is s k (omega arith))), first-more (siteOk (sitesIn s)) k (l .loop .inv .2) (holds e (c .if1 .left)))
 
--- src/sites.rt:26:1
 returns-2 : tie.Need-returns-2 Inv-loop μ-loop
 returns-2 c =
     let l = c .before .loop in
@@ -102,14 +74,6 @@ pub first-bad-site-spec : {M : Type 1} → statement M
 first-bad-site-spec =
     tie.close
     (tie.spec
-    Inv-loop
-    μ-loop
-    loop-holds
-    mul-site-at
-    site-at-requires
-    site-ok-requires
-    returns
-    add-k
-    loop-less
-    loop-again
+    Inv-loop μ-loop loop-holds (λ c. omega arith) (λ c κs. omega arith)
+    (λ c κs. search needs) returns (λ c. omega arith) (λ c. omega arith) loop-again
     returns-2)

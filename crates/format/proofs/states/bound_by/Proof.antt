@@ -1,6 +1,6 @@
 -- `format::states::bound_by` meets its contract: after j actions the set has what these bind. Assumes nothing.
 use denote.Ref.{now}
-use mathlib.Core.Path.{_≡_, sym, ap, _∙_}
+use mathlib.Core.Path.{_≡_, sym, _∙_}
 use mathlib.Core.Bool.{Bool}
 use mathlib.Core.List.{List}
 use Prim.Native.Nat.{ℕ, _+_, _*_, _/_, _-_, _≤_, _<_}
@@ -13,14 +13,10 @@ use Rattle.net.specs.Records.{actionWidth, noAction, readAction}
 use Rattle.net.specs.Net.{fieldsOf}
 use Rattle.net.specs.Image.{actionsIn}
 use Rattle.net.specs.declared.Action.{Action}
-use Rattle.format.specs.Variables.{boundBy, boundToo}
+use Rattle.format.specs.Steps.{boundBy, boundToo}
 use Rattle.format.proofs.Programs.{bound-none, bound-next}
 use Rattle.format.proofs.states.bound_by.Statement.{statement}
 use Rattle.format.proofs.states.bound_by.Tie as tie
-use Rattle.format.proofs.states.bound_by.Reads as reads
-use Rattle.format.proofs.states.bound_by.Lts as lts
-use Rattle.format.proofs.variables.bound_too.Reads as bound-too-reads
-use Rattle.net.proofs.action_at.Reads as action-at-reads
 
 -- one action more
 module _ (s : List ℕ) (from j : ℕ) (h : actionWidth * (from + j) + actionWidth ≤ length s) where
@@ -43,42 +39,15 @@ Inv-loop actions from n bound₀ j₀ bound j = (j ≤ n) × (bound ≡ boundBy 
 abbrev μ-loop : tie.MeasureT-loop
 μ-loop actions from n bound₀ j₀ bound j = n - j
 
--- src/states.rt:26:5
 loop-holds : tie.Need-loop-holds Inv-loop μ-loop
 loop-holds c = (omega arith, sym bound-none)
 
--- src/states.rt:27:52
-add-action-at : tie.Need-add-action-at Inv-loop μ-loop
-add-action-at c = omega arith
-
--- src/states.rt:27:36
-mul-action-at : tie.Need-mul-action-at Inv-loop μ-loop
-mul-action-at c = omega arith
-
--- src/states.rt:27:13
-action-at-requires : tie.Need-action-at-requires Inv-loop μ-loop
-action-at-requires c κs = omega arith
-
--- src/states.rt:29:13
-bound-too-requires : tie.Need-bound-too-requires Inv-loop μ-loop
-bound-too-requires c κs = search needs
-
--- src/states.rt:31:9
-add-j : tie.Need-add-j Inv-loop μ-loop
-add-j c = omega arith
-
--- src/states.rt:26:5
-loop-less : tie.Need-loop-less Inv-loop μ-loop
-loop-less c = omega arith
-
--- src/states.rt:26:5
 loop-again : tie.Need-loop-again Inv-loop μ-loop
 loop-again c =
     let l = c .before .before .before .before in
     let a = l .before .before .args in
     (omega arith, next (now (a .actions)) (a .from) (l .loop .j) (omega arith) (l .loop .inv .1) (c .before .before .action-at .ensures) (c .bound-too .ensures))
 
--- src/states.rt:20:1
 returns : tie.Need-returns Inv-loop μ-loop
 returns c =
     let e : c .before .loop .j ≡ c .before .before .before .args .n = omega arith in
@@ -88,14 +57,6 @@ pub bound-by-spec : {M : Type 1} → statement M
 bound-by-spec =
     tie.close
     (tie.spec
-    Inv-loop
-    μ-loop
-    loop-holds
-    add-action-at
-    mul-action-at
-    action-at-requires
-    bound-too-requires
-    add-j
-    loop-less
-    loop-again
+    Inv-loop μ-loop loop-holds (λ c. omega arith) (λ c. omega arith)
+    (λ c κs. omega arith) (λ c κs. search needs) (λ c. omega arith) (λ c. omega arith) loop-again
     returns)

@@ -1,14 +1,13 @@
 -- `format::states::first_bad_state` meets its contract: up to site k every state is good, and `from` is the first action of site k or a later
 -- one, so that its program stands from there up to the first action of a later site. Assumes nothing.
 use denote.Ref.{now}
-use mathlib.Core.Path.{_≡_, refl, sym, ap, _∙_}
+use mathlib.Core.Path.{_≡_, refl, sym, _∙_}
 use mathlib.Core.Bool.{Bool}
 use mathlib.Core.List.{List}
 use Prim.Native.Nat.{ℕ, zero-le, suc, _+_, _*_, _/_, _-_, _≤_, _<_}
 use native.Mathlib.Nat.{not-suc-le-zero}
 use native.Mathlib.Numerals.{add-one}
 use native.Mathlib.Omega.{arith}
-use borrow.Author.Needs.{needs}
 use borrow.Author.Tests.{le-ltb}
 use lib.Dec.{ltb}
 use lib.ListN.{length, getD, take, drop}
@@ -17,7 +16,7 @@ use Rattle.words.specs.Tables.{countBelow}
 use Rattle.words.proofs.First.{first-none, first-more, first-stops, first-is}
 use Rattle.words.proofs.Tables.{table-length, table-at}
 use Rattle.words.proofs.Truth.{fails, holds}
-use Rattle.words.proofs.Groups.{below, low-high, high-length, group}
+use Rattle.words.proofs.Groups.{below, low-high, group}
 use Rattle.net.specs.Records.{siteWidth, actionWidth, noSite, noAction, readSite, readAction}
 use Rattle.net.specs.Image.{sitesIn, actionsIn}
 use Rattle.net.specs.declared.Site.{Site}
@@ -26,11 +25,6 @@ use Rattle.format.specs.Format.{placed, stateOk}
 use Rattle.format.proofs.Order.{InOrder, order-table, below-bytes}
 use Rattle.format.proofs.states.first_bad_state.Statement.{statement}
 use Rattle.format.proofs.states.first_bad_state.Tie as tie
-use Rattle.format.proofs.states.first_bad_state.Reads as reads
-use Rattle.format.proofs.states.first_bad_state.Lts as lts
-use Rattle.format.proofs.states.state_ok.Reads as state-ok-reads
-use Rattle.net.proofs.site_at.Reads as site-at-reads
-use Rattle.words.proofs.count_below.Reads as count-below-reads
 
 -- the actions of sites before site k
 abbrev owner : Action → ℕ
@@ -67,27 +61,12 @@ Inv-loop sites actions n m from₀ k₀ from k = (k ≤ n) × (from ≡ lower ac
 abbrev μ-loop : tie.MeasureT-loop
 μ-loop sites actions n m from₀ k₀ from k = n - k
 
--- src/states.rt:68:5
 loop-holds : tie.Need-loop-holds Inv-loop μ-loop
 loop-holds c = (omega arith, sym (lower-none _), first-none _)
 
--- src/states.rt:69:56
-add-count-below : tie.Need-add-count-below Inv-loop μ-loop
-add-count-below c = omega arith
-
--- src/states.rt:69:13
 count-below-requires : tie.Need-count-below-requires Inv-loop μ-loop
 count-below-requires c κs = (omega arith, omega arith, c .before .before .before .before .pre)
 
--- src/states.rt:70:32
-mul-site-at : tie.Need-mul-site-at Inv-loop μ-loop
-mul-site-at c = omega arith
-
--- src/states.rt:70:13
-site-at-requires : tie.Need-site-at-requires Inv-loop μ-loop
-site-at-requires c κs = omega arith
-
--- src/states.rt:71:13
 state-ok-requires : tie.Need-state-ok-requires Inv-loop μ-loop
 state-ok-requires c κs =
     let l = c .before .before .before in
@@ -95,7 +74,6 @@ state-ok-requires c κs =
     let s = now (b .args .actions) in
     (omega (arith, lower-next s (b .pre) (l .loop .k), l .loop .inv .1, lower-found s (b .pre) (l .loop .k) (c .before .count-below .ensures .0)), omega arith)
 
--- src/states.rt:72:13
 returns : tie.Need-returns Inv-loop μ-loop
 returns c =
     let l = c .before .before .before .before .before in
@@ -107,15 +85,6 @@ returns c =
     let e = tested s (b .pre) sites k (omega arith) (l .loop .inv .1) (lower-found s (b .pre) k (c .before .before .before .count-below .ensures .0)) (c .before .before .site-at .ensures) (c .before .state-ok .ensures) in
     (sym (first-stops (stateOk (actionsIn s) (sitesIn sites)) k (length (sitesIn sites)) (l .loop .inv .2) (fails e (c .if1 .taken)) (omega arith)), omega arith)
 
--- src/states.rt:75:9
-add-k : tie.Need-add-k Inv-loop μ-loop
-add-k c = omega arith
-
--- src/states.rt:68:5
-loop-less : tie.Need-loop-less Inv-loop μ-loop
-loop-less c = omega arith
-
--- src/states.rt:68:5
 loop-again : tie.Need-loop-again Inv-loop μ-loop
 loop-again c =
     let l = c .before .before .before .before .before in
@@ -127,7 +96,6 @@ loop-again c =
     let e = tested s (b .pre) sites k (omega arith) (l .loop .inv .1) f (c .before .before .site-at .ensures) (c .before .state-ok .ensures) in
     (omega arith, rw (add-one k) f, first-more (stateOk (actionsIn s) (sitesIn sites)) k (l .loop .inv .2) (holds e (c .if1 .left)))
 
--- src/states.rt:60:1
 returns-2 : tie.Need-returns-2 Inv-loop μ-loop
 returns-2 c =
     let l = c .before .loop in
@@ -140,16 +108,6 @@ pub first-bad-state-spec : {M : Type 1} → statement M
 first-bad-state-spec =
     tie.close
     (tie.spec
-    Inv-loop
-    μ-loop
-    loop-holds
-    add-count-below
-    count-below-requires
-    mul-site-at
-    site-at-requires
-    state-ok-requires
-    returns
-    add-k
-    loop-less
-    loop-again
-    returns-2)
+    Inv-loop μ-loop loop-holds (λ c. omega arith) count-below-requires
+    (λ c. omega arith) (λ c κs. omega arith) state-ok-requires returns (λ c. omega arith)
+    (λ c. omega arith) loop-again returns-2)

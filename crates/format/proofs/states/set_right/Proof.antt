@@ -6,74 +6,7 @@ use Rattle.format.proofs.Eight.{every-eight}
 use borrow.Author.Needs.{needs}
 use Rattle.format.proofs.states.set_right.Statement.{statement}
 use Rattle.format.proofs.states.set_right.Tie as tie
-use Rattle.format.proofs.states.set_right.Reads as reads
-use Rattle.format.proofs.states.set_right.Lts as lts
 
--- src/states.rt:40:7
-array-read-result : tie.Need-array-read-result
-array-read-result c = search needs
-
--- src/states.rt:40:24
-array-read-result-2 : tie.Need-array-read-result-2
-array-read-result-2 c = search needs
-
--- src/states.rt:41:14
-array-read-result-3 : tie.Need-array-read-result-3
-array-read-result-3 c = search needs
-
--- src/states.rt:41:31
-array-read-result-4 : tie.Need-array-read-result-4
-array-read-result-4 c = search needs
-
--- src/states.rt:42:18
-array-read-result-5 : tie.Need-array-read-result-5
-array-read-result-5 c = search needs
-
--- src/states.rt:42:35
-array-read-result-6 : tie.Need-array-read-result-6
-array-read-result-6 c = search needs
-
--- src/states.rt:43:22
-array-read-result-7 : tie.Need-array-read-result-7
-array-read-result-7 c = search needs
-
--- src/states.rt:43:39
-array-read-result-8 : tie.Need-array-read-result-8
-array-read-result-8 c = search needs
-
--- src/states.rt:44:26
-array-read-result-9 : tie.Need-array-read-result-9
-array-read-result-9 c = search needs
-
--- src/states.rt:44:43
-array-read-result-10 : tie.Need-array-read-result-10
-array-read-result-10 c = search needs
-
--- src/states.rt:45:30
-array-read-result-11 : tie.Need-array-read-result-11
-array-read-result-11 c = search needs
-
--- src/states.rt:45:47
-array-read-result-12 : tie.Need-array-read-result-12
-array-read-result-12 c = search needs
-
--- src/states.rt:46:34
-array-read-result-13 : tie.Need-array-read-result-13
-array-read-result-13 c = search needs
-
--- src/states.rt:46:51
-array-read-result-14 : tie.Need-array-read-result-14
-array-read-result-14 c = search needs
-
--- src/states.rt:46:65
-array-read-result-15 : tie.Need-array-read-result-15
-array-read-result-15 c = search needs
-
--- src/states.rt:46:82
-array-read-result-16 : tie.Need-array-read-result-16
-array-read-result-16 c = search needs
-
--- src/states.rt:37:1
 returns : tie.Need-returns
 returns c = every-eight (λ v. Bool·beq (not (eqb (getD (c .args .t1) v 0) 0)) (getD (c .args .t2) v false))
 
@@ -81,20 +14,7 @@ pub set-right-spec : {M : Type 1} → statement M
 set-right-spec =
     tie.close
     (tie.spec
-    array-read-result
-    array-read-result-2
-    array-read-result-3
-    array-read-result-4
-    array-read-result-5
-    array-read-result-6
-    array-read-result-7
-    array-read-result-8
-    array-read-result-9
-    array-read-result-10
-    array-read-result-11
-    array-read-result-12
-    array-read-result-13
-    array-read-result-14
-    array-read-result-15
-    array-read-result-16
-    returns)
+    (λ c. search needs) (λ c. search needs) (λ c. search needs) (λ c. search needs) (λ c. search needs)
+    (λ c. search needs) (λ c. search needs) (λ c. search needs) (λ c. search needs) (λ c. search needs)
+    (λ c. search needs) (λ c. search needs) (λ c. search needs) (λ c. search needs) (λ c. search needs)
+    (λ c. search needs) returns)

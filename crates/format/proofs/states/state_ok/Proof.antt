@@ -3,27 +3,23 @@ use denote.Ref.{now}
 use mathlib.Core.Path.{_≡_, sym, ap, _∙_}
 use mathlib.Core.Bool.{Bool, false, not, Bool·beq}
 use mathlib.Core.List.{List}
-use Prim.Native.Nat.{ℕ, _*_, _/_, _-_, _≤_, _<_}
+use Prim.Native.Nat.{ℕ, _*_, _-_, _≤_, _<_}
 use native.Mathlib.Omega.{arith}
-use lib.Dec.{leb, eqb}
+use lib.Dec.{eqb}
 use lib.ListN.{length, getD, take, drop, length-drop}
 use lib.Seq.{length-take-le, take-take}
 use borrow.Author.Tests.{le-leb, lt-leb}
 use Rattle.words.specs.Lists.{every, allOf}
 use Rattle.words.proofs.Tables.{table-length}
-use Rattle.net.specs.Records.{actionWidth, readAction}
+use Rattle.net.specs.Records.{actionWidth}
 use Rattle.net.specs.Image.{actionsIn}
 use Rattle.net.specs.declared.Action.{Action}
 use Rattle.format.specs.Format.{binds, placed}
-use Rattle.format.specs.Variables.{boundBy}
+use Rattle.format.specs.Steps.{boundBy}
 use Rattle.format.proofs.Eight.{every-eight}
 use borrow.Author.Needs.{needs}
 use Rattle.format.proofs.states.state_ok.Statement.{statement}
 use Rattle.format.proofs.states.state_ok.Tie as tie
-use Rattle.format.proofs.states.state_ok.Reads as reads
-use Rattle.format.proofs.states.state_ok.Lts as lts
-use Rattle.format.proofs.states.bound_by.Reads as bound-by-reads
-use Rattle.format.proofs.states.set_right.Reads as set-right-reads
 
 -- each variable is set exactly if it is in the set of those bound
 rightly : (vars : List ℕ) (q : List Action)
@@ -48,30 +44,12 @@ module _ (s : List ℕ) (from to position : ℕ) (vars : List ℕ) (a : from ≤
   inside h e f = rw (program-length, le-leb position (to - from) h) (f ∙ rw e (rightly vars (take position (drop from (actionsIn s)))
       ∙ ap (λ (q : List Action). every (λ v. Bool·beq (not (eqb (getD vars v 0) 0)) (binds q v)) 8) (sym (take-take position (to - from) (drop from (actionsIn s)) h))))
 
--- src/states.rt:54:20
-cast-position : tie.Need-cast-position
-cast-position c = search needs
-
--- src/states.rt:56:17
-sub-if1 : tie.Need-sub-if1
-sub-if1 c = search needs
-
--- src/states.rt:56:46
-bound-by-requires : tie.Need-bound-by-requires
-bound-by-requires c κs = search needs
-
--- src/states.rt:56:30
-set-right-requires : tie.Need-set-right-requires
-set-right-requires c κs = search needs
-
--- src/states.rt:50:1
 returns : tie.Need-returns
 returns c =
     let a = c .before .before .before .before .before .before in
     inside (now (a .args .actions)) (a .args .from) (a .args .to) (a .args .x .position) (a .args .x .vars) (a .pre .0) (a .pre .1) (omega arith)
     (c .before .bound-by .ensures) (c .set-right .ensures)
 
--- src/states.rt:50:1
 returns-2 : tie.Need-returns-2
 returns-2 c =
     let a = c .before .before .before .before in
@@ -80,4 +58,6 @@ returns-2 c =
 pub state-ok-spec : {M : Type 1} → statement M
 state-ok-spec =
     tie.close
-    (tie.spec cast-position sub-if1 bound-by-requires set-right-requires returns returns-2)
+    (tie.spec
+    (λ c. search needs) (λ c. search needs) (λ c κs. search needs) (λ c κs. search needs) returns
+    returns-2)

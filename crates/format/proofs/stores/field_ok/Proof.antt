@@ -2,16 +2,13 @@
 use borrow.Author.Tests.{lt-ltb, le-ltb}
 use Rattle.format.proofs.stores.field_ok.Statement.{statement}
 use Rattle.format.proofs.stores.field_ok.Tie as tie
-use Rattle.format.proofs.stores.field_ok.Reads as reads
-use Rattle.format.proofs.stores.field_ok.Lts as lts
 
--- src/stores.rt:21:1
 returns : tie.Need-returns
 returns c = simp (lt-ltb _ _ (c .if1 .taken))
 
--- src/stores.rt:21:1
 returns-2 : tie.Need-returns-2
 returns-2 c = simp (le-ltb _ _ (c .if1 .left))
 
 pub field-ok-spec : {M : Type 1} → statement M
-field-ok-spec = tie.close (tie.spec returns returns-2)
+field-ok-spec = tie.close (tie.spec
+    returns returns-2)

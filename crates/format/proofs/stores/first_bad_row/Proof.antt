@@ -3,9 +3,8 @@ use denote.Ref.{now}
 use mathlib.Core.Path.{_≡_, refl, sym, _∙_}
 use mathlib.Core.Bool.{Bool, true, _&&_, and-assoc}
 use mathlib.Core.List.{List, map}
-use Prim.Native.Nat.{ℕ, _+_, _*_, _/_, _-_, _≤_, _<_}
+use Prim.Native.Nat.{ℕ, _*_, _/_, _-_, _≤_, _<_}
 use native.Mathlib.Omega.{arith}
-use borrow.Author.Needs.{needs}
 use lib.Dec.{T}
 use lib.ListN.{length, getD}
 use Rattle.words.specs.Lists.{firstBad, before}
@@ -22,10 +21,6 @@ use Rattle.format.specs.Format.{fieldsOk, rowRules, rowOk}
 use Rattle.format.proofs.Order.{never-fell}
 use Rattle.format.proofs.stores.first_bad_row.Statement.{statement}
 use Rattle.format.proofs.stores.first_bad_row.Tie as tie
-use Rattle.format.proofs.stores.first_bad_row.Reads as reads
-use Rattle.format.proofs.stores.first_bad_row.Lts as lts
-use Rattle.format.proofs.stores.row_ok.Reads as row-ok-reads
-use Rattle.net.proofs.row_at.Reads as row-at-reads
 
 module _ (s : List ℕ) (sites k : ℕ) where
   owners-are : map (λ x. x .owner) (rowsIn s) ≡ ownersIn rowWidth s
@@ -52,26 +47,15 @@ Inv-loop rows sites n k₀ k = (k ≤ n) × (firstBad (rowOk sites (rowsIn rows)
 abbrev μ-loop : tie.MeasureT-loop
 μ-loop rows sites n k₀ k = n - k
 
--- src/stores.rt:49:5
 loop-holds : tie.Need-loop-holds Inv-loop μ-loop
 loop-holds c = (omega arith, first-none _)
 
--- src/stores.rt:50:30
-mul-row-at : tie.Need-mul-row-at Inv-loop μ-loop
-mul-row-at c = omega arith
-
--- src/stores.rt:50:13
-row-at-requires : tie.Need-row-at-requires Inv-loop μ-loop
-row-at-requires c κs = omega arith
-
--- src/stores.rt:51:13
 row-ok-requires : tie.Need-row-ok-requires Inv-loop μ-loop
 row-ok-requires c κs =
     let l = c .before .before in
     let a = l .before .before .args in
     (omega arith, ordered (now (a .rows)) (a .sites) (l .loop .k) (l .loop .inv .1))
 
--- src/stores.rt:52:13
 returns : tie.Need-returns Inv-loop μ-loop
 returns c =
     let l = c .before .before .before .before in
@@ -82,15 +66,6 @@ returns c =
     let e = tested s (a .sites) k (omega arith) (c .before .before .row-at .ensures) (c .before .row-ok .ensures) in
     (sym (first-stops (rowOk (a .sites) (rowsIn s)) k (length (rowsIn s)) (l .loop .inv .1) (fails e (c .if1 .taken)) (omega arith)), omega arith)
 
--- src/stores.rt:54:9
-add-k : tie.Need-add-k Inv-loop μ-loop
-add-k c = omega arith
-
--- src/stores.rt:49:5
-loop-less : tie.Need-loop-less Inv-loop μ-loop
-loop-less c = omega arith
-
--- src/stores.rt:49:5
 loop-again : tie.Need-loop-again Inv-loop μ-loop
 loop-again c =
     let l = c .before .before .before .before in
@@ -99,7 +74,6 @@ loop-again c =
     let e = tested s (a .sites) (l .loop .k) (omega arith) (c .before .before .row-at .ensures) (c .before .row-ok .ensures) in
     (omega arith, first-more (rowOk (a .sites) (rowsIn s)) (l .loop .k) (l .loop .inv .1) (holds e (c .if1 .left)))
 
--- src/stores.rt:44:1
 returns-2 : tie.Need-returns-2 Inv-loop μ-loop
 returns-2 c =
     let l = c .before .loop in
@@ -112,14 +86,6 @@ pub first-bad-row-spec : {M : Type 1} → statement M
 first-bad-row-spec =
     tie.close
     (tie.spec
-    Inv-loop
-    μ-loop
-    loop-holds
-    mul-row-at
-    row-at-requires
-    row-ok-requires
-    returns
-    add-k
-    loop-less
-    loop-again
+    Inv-loop μ-loop loop-holds (λ c. omega arith) (λ c κs. omega arith)
+    row-ok-requires returns (λ c. omega arith) (λ c. omega arith) loop-again
     returns-2)

@@ -1,43 +1,23 @@
 -- `format::stores::row_ok` meets its contract: its tests are the definition's. Assumes nothing.
 use mathlib.Core.List.{[], _∷_}
 use Rattle.rulebook.specs.Parts.{countOk}
-use Rattle.rulebook.proofs.Chains.{Tried, last, on, stop, tried}
+use Rattle.rulebook.proofs.Chains.{last, on, stop, tried}
 use Rattle.format.specs.Format.{fieldsOk}
 use borrow.Author.Needs.{needs}
 use Rattle.format.proofs.stores.row_ok.Statement.{statement}
 use Rattle.format.proofs.stores.row_ok.Tie as tie
-use Rattle.format.proofs.stores.row_ok.Reads as reads
-use Rattle.format.proofs.stores.row_ok.Lts as lts
-use Rattle.format.proofs.owners.place_ok.Reads as place-ok-reads
-use Rattle.format.proofs.stores.fields_ok.Reads as fields-ok-reads
-use Rattle.rulebook.proofs.count_ok.Reads as count-ok-reads
 
--- src/stores.rt:40:5
-place-ok-requires : tie.Need-place-ok-requires
-place-ok-requires c κs = search needs
-
--- src/stores.rt:40:58
-count-ok-requires : tie.Need-count-ok-requires
-count-ok-requires c κs = search needs
-
--- src/stores.rt:40:79
-fields-ok-requires : tie.Need-fields-ok-requires
-fields-ok-requires c κs = search needs
-
--- src/stores.rt:35:1
 returns : tie.Need-returns
 returns c =
     let t2 = c .before in
     let t1 = t2 .before .before in
     tried (_ ∷ _ ∷ _ ∷ []) (on (t1 .before .place-ok .ensures) (t1 .if1 .taken) (on (t2 .before .count-ok .ensures) (t2 .if2 .taken) (last (c .fields-ok .ensures))))
 
--- src/stores.rt:35:1
 returns-2 : tie.Need-returns-2
 returns-2 c =
     let t1 = c .before .before in
     tried (_ ∷ _ ∷ _ ∷ []) (on (t1 .before .place-ok .ensures) (t1 .if1 .taken) (stop (c .before .count-ok .ensures) (c .if2 .left)))
 
--- src/stores.rt:35:1
 returns-3 : tie.Need-returns-3
 returns-3 c =
     let x = c .before .before .before .before .args .x in
@@ -46,4 +26,6 @@ returns-3 c =
 pub row-ok-spec : {M : Type 1} → statement M
 row-ok-spec =
     tie.close
-    (tie.spec place-ok-requires count-ok-requires fields-ok-requires returns returns-2 returns-3)
+    (tie.spec
+    (λ c κs. search needs) (λ c κs. search needs) (λ c κs. search needs) returns returns-2
+    returns-3)

@@ -6,30 +6,22 @@ use Rattle.format.proofs.Binding.{bind-set, bind-none}
 use borrow.Author.Needs.{needs}
 use Rattle.format.proofs.variables.bound_if.Statement.{statement}
 use Rattle.format.proofs.variables.bound_if.Tie as tie
-use Rattle.format.proofs.variables.bound_if.Reads as reads
-use Rattle.format.proofs.variables.bound_if.Lts as lts
 
--- src/variables.rt:59:13
-cast-v : tie.Need-cast-v
-cast-v c = search needs
-
--- src/variables.rt:61:9
 array-write-b : tie.Need-array-write-b
 array-write-b c =
     let x = c .before .before .before .args .x in
     ltb-true (x .value) 8 (both-right (eqb (x .tag) 2) (both-right (c .before .before .before .args .used) (c .if1 .taken)))
 
--- src/variables.rt:55:1
 returns : tie.Need-returns
 returns c =
     let a = c .before .before .before in
     bind-set (a .args .bound) (search needs) (a .args .x) (a .args .used) (c .if1 .taken)
 
--- src/variables.rt:55:1
 returns-2 : tie.Need-returns-2
 returns-2 c =
     let a = c .before .before .before in
     bind-none (a .args .bound) (search needs) (a .args .x) (a .args .used) (c .if1 .left)
 
 pub bound-if-spec : {M : Type 1} → statement M
-bound-if-spec = tie.close (tie.spec cast-v array-write-b returns returns-2)
+bound-if-spec = tie.close (tie.spec
+    (λ c. search needs) array-write-b returns returns-2)

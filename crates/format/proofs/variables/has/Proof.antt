@@ -6,20 +6,10 @@ use lib.ListN.{List·getD-eq-default}
 use borrow.Author.Needs.{needs}
 use Rattle.format.proofs.variables.has.Statement.{statement}
 use Rattle.format.proofs.variables.has.Tie as tie
-use Rattle.format.proofs.variables.has.Reads as reads
-use Rattle.format.proofs.variables.has.Lts as lts
 
--- src/variables.rt:16:16
-array-read-result : tie.Need-array-read-result
-array-read-result c = search needs
-
--- src/variables.rt:12:1
-returns : tie.Need-returns
-returns c = search needs
-
--- src/variables.rt:12:1
 returns-2 : tie.Need-returns-2
 returns-2 c = sym (List·getD-eq-default (c .before .args .t1) false {n = c .before .args .v} (omega arith))
 
 pub has-spec : {M : Type 1} → statement M
-has-spec = tie.close (tie.spec array-read-result returns returns-2)
+has-spec = tie.close (tie.spec
+    (λ c. search needs) (λ c. search needs) returns-2)

@@ -2,16 +2,13 @@
 use native.Mathlib.Omega.{arith}
 use Rattle.format.proofs.variables.once.Statement.{statement}
 use Rattle.format.proofs.variables.once.Tie as tie
-use Rattle.format.proofs.variables.once.Reads as reads
-use Rattle.format.proofs.variables.once.Lts as lts
 
--- src/variables.rt:20:1
 returns : tie.Need-returns
 returns c = (simp (c .if1 .taken), omega arith)
 
--- src/variables.rt:20:1
 returns-2 : tie.Need-returns-2
 returns-2 c = (simp (c .if1 .left), omega arith)
 
 pub once-spec : {M : Type 1} → statement M
-once-spec = tie.close (tie.spec returns returns-2)
+once-spec = tie.close (tie.spec
+    returns returns-2)

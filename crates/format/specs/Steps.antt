@@ -1,18 +1,22 @@
--- How the code keeps and tests variables: a truth value for each of the eight, and a test for each part of an action. The rule itself is
--- `variableOk`; that the two agree is a theorem. Assumes nothing.
-use Prim.Native.Nat.{ℕ}
+-- How the code goes through the rules, for its contracts: it keeps variables as a truth value for each of the eight, tests each part of an
+-- action, where the rule `variableOk` speaks of each variable, and gives the last part of the verdict by itself. Theorems say that all this
+-- comes to the rules of `Format` and `Verdict`. Assumes nothing.
 use mathlib.Core.Bool.{Bool, true, false, cond, not, _&&_, _||_}
 use mathlib.Core.List.{List, [], _∷_}
-use lib.Dec.{leb, eqb}
-use lib.ListN.{getD}
+use lib.Dec.{ltb, leb, eqb}
+use lib.ListN.{length, getD}
 use Rattle.words.specs.Lists.{all, some, count}
 use Rattle.words.specs.Tables.{build}
 use Rattle.net.specs.declared.Operand.{Operand}
 use Rattle.net.specs.declared.Action.{Action}
 use Rattle.rulebook.specs.Parts.{tagsOf, operandOk, operandsOk, countOk, capabilityOk, speaks}
+use Rattle.net.specs.Net.{State}
 use Rattle.format.specs.Format.{binds}
+use Rattle.format.specs.Verdict.{badAction, badRow, badState}
+use Rattle.format.specs.declared.Verdict.{Verdict}
+use Rattle.format.specs.declared.Verdict.the-variants.{Accepted, BadAction, BadRow, BadState}
 
--- the variables that a program binds
+-- ---- variables: those that a program binds
 unfoldable pub boundBy : List Action → List Bool
 boundBy p = build 8 (binds p)
 
@@ -42,3 +46,11 @@ formRules bound x =
     ∷ operandsOk (tagsOf (not (eqb (x .capability) 1)) false false) (x .count) (x .fields)
     ∷ partsOk bound (x .target) (x .fields)
     ∷ []
+
+-- ---- 16 to 18: the part of the verdict that turns on actions, rows and the state
+unfoldable pub stateVerdict : State → Verdict
+stateVerdict s =
+    cond (ltb (badAction s) (length (s .actions))) (BadAction (badAction s))
+    (cond (ltb (badRow s) (length (s .rows))) (BadRow (badRow s))
+    (cond (ltb (badState s) (length (s .sites))) (BadState (badState s))
+    Accepted))
