@@ -13,9 +13,10 @@ ghost use Rattle.words.specs.Tables.{Ordered};
 ghost use Rattle.net.specs.Net.{siteAt, held, storeLimit};
 ghost use Rattle.net.specs.Image.{contentsOk, countIn, offsetIn, bodyIn, stateIn};
 ghost use Rattle.policy.specs.House.{actOf};
-ghost use Rattle.stepping.specs.Step.{advance, marked, loses, informed, rowPut, placeFor, hasRoom, putAfter, gotAfter};
+ghost use Rattle.stepping.specs.Step.{advance, marked, loses, informed, rowPut, placeFor, hasRoom, putAfter, gotAfter, isGranted, asking, step};
 ghost use Rattle.monitor.specs.Memory.{holdsNet, imageIn, rulesHeld, stateHeld, memoryWith};
-ghost use Rattle.monitor.specs.Plan.{informedBy, Sited, Ready, Reads};
+ghost use Rattle.monitor.specs.Plan.{informedBy, planIn, Sited, Ready, Reads};
+use crate::ask::Asked;
 use level::Level;
 use net::Action;
 use net::Operand;
@@ -291,4 +292,18 @@ fn get(memory: &mut [u8], i: usize, t: usize, k: usize, action: Action)
     if action.capability == 2 {
         remove_row(memory, rows.base, rows.count, k);
     }
+}
+
+// Does what asking found for site i.
+pub fn act(memory: &mut [u8], i: usize, asked: Asked)
+    requires { ⌜ (holdsNet (now memory) ≡ true) × (isGranted (asked .answer) ≡ true) × (planIn i asked ≡ asking (rulesHeld (now memory)) (stateHeld (now memory)) i) ⌝ }
+    ensures { λ _. ⌜ now (memory .exit) ≡ memoryWith (rulesHeld (now (memory .entry))) (step (rulesHeld (now (memory .entry))) (stateHeld (now (memory .entry))) i .after) ⌝ }
+{
+    let action = asked.action;
+    let target = asked.target;
+    if action.capability == 1 {
+        put(memory, i, target, action);
+        return;
+    }
+    get(memory, i, target, asked.row, action);
 }
