@@ -2,20 +2,19 @@
 use mathlib.Core.Path.{_≡_, refl, sym, ap, _∙_}
 use mathlib.Core.Bool.{Bool, _&&_, and-true, and-assoc}
 use mathlib.Core.List.{List, [], _∷_, map}
-use Prim.Native.Nat.{ℕ, zero, suc, _+_, _*_, _/_, _≤_}
+use Prim.Native.Nat.{ℕ, zero, suc, _+_, _*_, _≤_}
 use native.Mathlib.Omega.{arith}
-use lib.Dec.{ltb}
 use lib.ListN.{length, take, drop}
 use Rattle.words.specs.Lists.{allOf}
-use Rattle.words.proofs.Tables.{table-length, table-at}
-use Rattle.net.specs.Records.{nodeWidth, aspectWidth, noAspect, readNode, readAspect}
-use Rattle.net.specs.Net.{nodeAt, aspectAt}
-use Rattle.net.specs.Image.{nodesIn, aspectsIn}
+use Rattle.words.proofs.Tables.{table-at}
+use Rattle.net.specs.Records.{aspectWidth, noAspect, readAspect}
+use Rattle.net.specs.Net.{aspectAt}
+use Rattle.net.specs.Image.{aspectsIn}
 use Rattle.net.specs.declared.Node.{Node}
 use Rattle.net.specs.declared.Aspect.{Aspect}
 use Rattle.rulebook.specs.Parts.{ownersIn, ownerOk}
-use Rattle.rulebook.specs.Rulebook.{isCondition, isAdvice, aspectRules, aspectOk}
-use Rattle.rulebook.specs.Steps.{headOk, cutOk}
+use Rattle.rulebook.specs.Rulebook.{aspectRules, aspectOk}
+use Rattle.rulebook.specs.Steps.{headOk, cutOk, namesOk}
 use Rattle.rulebook.proofs.Chains.{Tried, tried}
 use Rattle.rulebook.proofs.Owners.{owners-of}
 
@@ -46,24 +45,16 @@ in-parcels [] l = refl
 in-parcels (n ∷ ns) l =
     all-first (allOf (take n l)) (parcels ns (drop n l)) ∙ rw (in-parcels ns (drop n l)) (all-split n l)
 
--- an aspect's: its owner, its head, its cut, the condition, the recommendation
-abbrev pub groups : ℕ → List ℕ → ℕ → List Node → ℕ → Aspect → List Bool
-groups sites owners n nodes k x =
-    ownerOk sites owners k
-    ∷ headOk x
-    ∷ cutOk x
-    ∷ (ltb (x .condition) n && isCondition (nodeAt nodes (x .condition)))
-    ∷ (ltb (x .recommendation) n && isAdvice (nodeAt nodes (x .recommendation)))
-    ∷ []
+-- an aspect's: its owner, its head, its cut, the nodes that it names
+abbrev pub groups : ℕ → List ℕ → ℕ → List Node → Aspect → List Bool
+groups sites owners k nodes x = ownerOk sites owners k ∷ headOk x ∷ cutOk x ∷ namesOk nodes x ∷ []
 
-pub aspect-tried : (sites : ℕ) (nodes s : List ℕ) (k : ℕ) (x : Aspect) {r : Bool} → 32 * k + 32 ≤ length s → x ≡ readAspect s (32 * k)
-    → Tried r (groups sites (ownersIn 32 s) (length nodes / 24) (nodesIn nodes) k x) → r ≡ aspectOk sites (nodesIn nodes) (aspectsIn s) k
+pub aspect-tried : (sites : ℕ) (nodes : List Node) (s : List ℕ) (k : ℕ) (x : Aspect) {r : Bool} → 32 * k + 32 ≤ length s → x ≡ readAspect s (32 * k)
+    → Tried r (groups sites (ownersIn 32 s) k nodes x) → r ≡ aspectOk sites nodes (aspectsIn s) k
 unfolding aspectOk cutOk
 aspect-tried sites nodes s k x h e t =
-    let n : List Node = nodesIn nodes in
     let l : List Aspect = aspectsIn s in
-    tried (groups sites (ownersIn 32 s) (length nodes / 24) n k x) t
-    ∙ ap (λ (o : List ℕ). allOf (groups sites o (length nodes / 24) n k x)) (sym (aspect-owners s))
-    ∙ ap (λ (m : ℕ). allOf (groups sites (map (λ y. y .owner) l) m n k x)) (sym (table-length readNode nodeWidth nodes))
-    ∙ in-parcels (1 ∷ 3 ∷ 4 ∷ 2 ∷ []) (aspectRules sites n l k x)
-    ∙ ap (λ (y : Aspect). allOf (aspectRules sites n l k y)) (e ∙ sym (aspect-is s k h))
+    tried (groups sites (ownersIn 32 s) k nodes x) t
+    ∙ ap (λ (o : List ℕ). allOf (groups sites o k nodes x)) (sym (aspect-owners s))
+    ∙ in-parcels (1 ∷ 3 ∷ 4 ∷ []) (aspectRules sites nodes l k x)
+    ∙ ap (λ (y : Aspect). allOf (aspectRules sites nodes l k y)) (e ∙ sym (aspect-is s k h))

@@ -1,7 +1,7 @@
 -- Tests joined by `&&`, as the code goes through them: it goes on where one holds, and its answer is that of the one that fails, or of the
 -- last. Assumes nothing.
 use mathlib.Core.Path.{_≡_, sym, _∙_}
-use mathlib.Core.Bool.{Bool, true, false}
+use mathlib.Core.Bool.{Bool, true, false, _&&_}
 use mathlib.Core.List.{List, [], _∷_}
 use Rattle.words.specs.Lists.{allOf}
 
@@ -16,3 +16,7 @@ tried (b ∷ []) (last e) = e
 tried (b ∷ c ∷ l) (on e t h) = rw (sym e ∙ t) (tried (c ∷ l) h)
 tried (b ∷ []) (stop e t) = e
 tried (b ∷ c ∷ l) (stop e t) = rw (sym e ∙ t) t
+
+-- tests joined by `&`, each said by what it ensures
+pub both : {a b x y : Bool} → a ≡ x → b ≡ y → (a && b) ≡ (x && y)
+both p q = cc

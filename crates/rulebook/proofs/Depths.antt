@@ -3,7 +3,7 @@
 use mathlib.Core.Path.{_≡_, refl, sym, ap, _∙_}
 use mathlib.Core.Bool.{Bool, true, false, cond, _&&_, and-assoc}
 use mathlib.Core.List.{List, [], _∷_, _++_}
-use Prim.Native.Nat.{ℕ, zero, suc, _+_, _*_, _≤_, _<_}
+use Prim.Native.Nat.{ℕ, suc, _+_, _*_, _≤_, _<_}
 use native.Mathlib.Omega.{arith}
 use native.Mathlib.Numerals.{add-one}
 use lib.Dec.{T, ltb, leb, ltb→lt}
@@ -19,7 +19,7 @@ use Rattle.net.specs.Records.{nodeWidth, noNode, readNode}
 use Rattle.net.specs.Net.{nodeAt, depthLimit}
 use Rattle.net.specs.Image.{nodesIn}
 use Rattle.net.specs.declared.Node.{Node}
-use Rattle.rulebook.specs.Rulebook.{hasOne, hasTwo, childOk, firstOk, secondOk, depthOf, depths, nodeRules, nodeOk}
+use Rattle.rulebook.specs.Rulebook.{hasOne, hasTwo, childOk, depthOf, depths, nodeRules, nodeOk}
 use Rattle.rulebook.specs.Steps.{shapeOk, depthAt}
 
 -- ---- a node in its table, and its kind

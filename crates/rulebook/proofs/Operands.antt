@@ -7,7 +7,7 @@ use native.Mathlib.Omega.{arith}
 use lib.Dec.{ltb, leb, eqb}
 use lib.ListN.{length, getD}
 use lib.Seq.{take-nil, drop-nil}
-use borrow.Author.Tests.{ne-eqb, lt-ltb, le-ltb}
+use borrow.Author.Tests.{ne-eqb, lt-ltb}
 use Rattle.words.specs.Lists.{allOf, some}
 use Rattle.words.proofs.Lists.{some-append}
 use Rattle.words.proofs.Numbers.{written}

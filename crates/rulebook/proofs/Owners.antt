@@ -13,7 +13,7 @@ use lib.Seq.{drop-cons, take-suc, take-length}
 use borrow.Author.Tests.{eqb-true, eqb-false, eq-eqb, ltb-true, ltb-false, lt-ltb, le-ltb}
 use Rattle.words.specs.Lists.{firstBad, before, all, count, insertAt, removeAt}
 use Rattle.words.specs.Tables.{build, tableOf}
-use Rattle.words.proofs.Truth.{both-T, T-both, is-T}
+use Rattle.words.proofs.Truth.{both-T, T-both}
 use Rattle.words.proofs.First.{first-below}
 use Rattle.words.proofs.Lists.{all-at, all-of, all-weaken, all-insert, all-remove, count-append, count-insert, count-remove}
 use Rattle.words.proofs.Tables.{build-same, table-length, table-at}

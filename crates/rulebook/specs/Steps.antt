@@ -2,15 +2,15 @@
 use Prim.Native.Nat.{ℕ, _+_}
 use mathlib.Core.Bool.{Bool, true, cond, not, _&&_, _||_}
 use mathlib.Core.List.{List, [], _∷_}
-use lib.Dec.{leb, eqb}
-use lib.ListN.{take}
-use Rattle.words.specs.Lists.{every, allOf, some, count}
-use Rattle.net.specs.Net.{depthLimit, nodeAt, cutOf}
+use lib.Dec.{eqb}
+use lib.ListN.{take, drop}
+use Rattle.words.specs.Lists.{allOf, some}
+use Rattle.net.specs.Net.{depthLimit, nodeAt}
 use Rattle.net.specs.declared.Operand.{Operand}
 use Rattle.net.specs.declared.Node.{Node}
 use Rattle.net.specs.declared.Aspect.{Aspect}
-use Rattle.rulebook.specs.Parts.{operandOk, operandsOk, countOk, capabilityOk, speaks}
-use Rattle.rulebook.specs.Rulebook.{depthOf, nodeRules}
+use Rattle.rulebook.specs.Parts.{speaks}
+use Rattle.rulebook.specs.Rulebook.{depthOf, nodeRules, aspectRules}
 
 -- ---- variables: an operand, where it has this tag, speaks of a variable that none of these speaks of with the tag
 unfoldable pub alone : ℕ → Operand → List Operand → Bool
@@ -21,9 +21,7 @@ unfoldable pub onceEach : ℕ → List Operand → Bool
 onceEach tag [] = true
 onceEach tag (x ∷ l) = alone tag x l && onceEach tag l
 
--- ---- nodes
-
--- a node is good but for its depth, the last of its rules
+-- ---- nodes: one is good but for its depth, the last of its rules
 unfoldable pub shapeOk : List ℕ → List Node → ℕ → Node → Bool
 shapeOk places l k x = allOf (take 5 (nodeRules places l k x))
 
@@ -31,17 +29,15 @@ shapeOk places l k x = allOf (take 5 (nodeRules places l k x))
 unfoldable pub depthAt : List ℕ → List Node → ℕ → List ℕ → ℕ
 depthAt places l k row = cond (shapeOk places l k (nodeAt l k)) (depthOf (nodeAt l k) row) (depthLimit + 1)
 
--- ---- aspects: the first bytes of its record after the owner, and its cut
+-- ---- aspects: of its rules, those that speak of its record alone, of its head and of its cut; and of the nodes that it names
 abbrev pub headOk : Aspect → Bool
-headOk x = capabilityOk (x .capability) && (countOk (x .count) && eqb (x .zero) 0)
+headOk x = allOf (take 3 (drop 1 (aspectRules 0 [] [] 0 x)))
 
 abbrev pub cutRules : Aspect → List Bool
-cutRules x =
-    operandOk (0 ∷ 1 ∷ 3 ∷ []) (x .source)
-    ∷ operandOk (0 ∷ 1 ∷ 3 ∷ []) (x .target)
-    ∷ operandsOk (0 ∷ 1 ∷ 3 ∷ 4 ∷ []) (x .count) (x .fields)
-    ∷ every (λ v. leb (count (speaks 1 v) (cutOf x)) 1) 8
-    ∷ []
+cutRules x = take 4 (drop 4 (aspectRules 0 [] [] 0 x))
 
 unfoldable pub cutOk : Aspect → Bool
 cutOk x = allOf (cutRules x)
+
+abbrev pub namesOk : List Node → Aspect → Bool
+namesOk nodes x = allOf (drop 8 (aspectRules 0 nodes [] 0 x))

@@ -1,13 +1,12 @@
 // Aspects: each is read once, whole and by value.
 ghost use mathlib.Core.Path.{_≡_};
-ghost use mathlib.Core.Bool.{_&&_};
 ghost use mathlib.Core.List.{[], _∷_};
 ghost use Prim.Native.Nat.{_+_, _*_, _≤_};
 ghost use lib.ListN.{length};
 ghost use Rattle.words.specs.Lists.{firstBad};
 ghost use Rattle.net.specs.Image.{nodesIn, aspectsIn};
 ghost use Rattle.rulebook.specs.Rulebook.{aspectOk};
-ghost use Rattle.rulebook.specs.Steps.{alone, onceEach, headOk, cutOk};
+ghost use Rattle.rulebook.specs.Steps.{alone, onceEach, headOk, cutOk, namesOk};
 use crate::nodes::advice_below;
 use crate::nodes::condition_below;
 use crate::parts::capability_ok;
@@ -41,7 +40,7 @@ fn takes_once(source: Operand, target: Operand, l: [Operand; 4]) -> bool
     ensures { λ r. ⌜ r ≡ onceEach 1 (source ∷ target ∷ l) ⌝ }
 {
     are_apart(source, target)
-        && (is_alone(1, source, l, 0) && (is_alone(1, target, l, 0) && once_each(1, l)))
+        & (is_alone(1, source, l, 0) & (is_alone(1, target, l, 0) & once_each(1, l)))
 }
 
 // Whether the cut is good.
@@ -56,18 +55,21 @@ fn cut_ok(x: Aspect) -> bool
             && (operands_ok(l, x.count, false, true, true) && takes_once(source, target, l)))
 }
 
+// Whether it names a condition and a recommendation.
+fn names_ok(nodes: &[u8], x: Aspect) -> bool
+    ensures { λ r. ⌜ r ≡ namesOk (nodesIn (now (nodes .entry))) x ⌝ }
+{
+    let n = nodes.len() / 24;
+    condition_below(nodes, n, x.condition) & advice_below(nodes, n, x.recommendation)
+}
+
 // Whether aspect k is good where those before it are.
 fn aspect_ok(aspects: &[u8], nodes: &[u8], sites: usize, k: usize) -> bool
     requires { ⌜ 32 * k + 32 ≤ length (now aspects) ⌝ }
     ensures { λ r. ⌜ r ≡ aspectOk sites (nodesIn (now (nodes .entry))) (aspectsIn (now (aspects .entry))) k ⌝ }
 {
     let x = aspect_at(aspects, 32 * k);
-    let n = nodes.len() / 24;
-    owner_ok(aspects, 32, sites, k)
-        && (head_ok(x)
-            && (cut_ok(x)
-                && (condition_below(nodes, n, x.condition)
-                    && advice_below(nodes, n, x.recommendation))))
+    owner_ok(aspects, 32, sites, k) && (head_ok(x) && (cut_ok(x) && names_ok(nodes, x)))
 }
 
 // The first bad aspect, or how many there are.

@@ -14,3 +14,4 @@ pub use parts::operand_ok;
 pub use parts::operands_ok;
 pub use parts::owner_ok;
 pub use parts::room_ok;
+pub use parts::speaks_of;

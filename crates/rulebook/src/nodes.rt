@@ -1,7 +1,7 @@
 // Nodes: each is read once, whole and by value, and judged by its kind; the depths of those before it stand in a row, so that each depth is
 // worked out once.
 ghost use mathlib.Core.Path.{_≡_};
-ghost use mathlib.Core.Bool.{true, cond, _&&_};
+ghost use mathlib.Core.Bool.{true, cond, _&&_, _||_};
 ghost use Prim.Native.Nat.{ℕ, _+_, _*_, _≤_, _<_, max};
 ghost use lib.ListN.{length, getD};
 ghost use lib.Dec.{ltb, leb, eqb};
@@ -18,21 +18,16 @@ use net::node_at;
 use net::place_of;
 use words::Found;
 
-// A node is at most so deep.
+// There are at most so many nodes, and each is at most so deep.
+const MOST_NODES: usize = 1024;
+
 const DEPTH_LIMIT: u8 = 8;
 
-// Whether a kind is a condition's.
-fn is_condition(kind: u8) -> bool
-    ensures { λ r. ⌜ r ≡ (leb 1 kind && leb kind 8) ⌝ }
+// Whether a kind is a condition's or a recommendation's.
+fn is_kind(kind: u8) -> bool
+    ensures { λ r. ⌜ r ≡ ((leb 1 kind && leb kind 8) || (leb 16 kind && leb kind 24)) ⌝ }
 {
-    (1 <= kind) & (kind <= 8)
-}
-
-// Whether a kind is a recommendation's.
-fn is_advice(kind: u8) -> bool
-    ensures { λ r. ⌜ r ≡ (leb 16 kind && leb kind 24) ⌝ }
-{
-    (16 <= kind) & (kind <= 24)
+    ((1 <= kind) & (kind <= 8)) | ((16 <= kind) & (kind <= 24))
 }
 
 // Whether a kind has two children.
@@ -49,13 +44,25 @@ fn has_one(kind: u8) -> bool
     (kind == 2) | ((kind == 8) | ((kind == 17) | ((kind == 18) | has_two(kind))))
 }
 
+// Whether node j is lower than k and its kind one of low..high.
+fn kind_below(nodes: &[u8], k: usize, j: u16, low: u8, high: u8) -> bool
+    requires { ⌜ 24 * k ≤ length (now nodes) ⌝ }
+    ensures { λ r. ⌜ r ≡ (ltb j k && (leb low (nodeAt (nodesIn (now (nodes .entry))) j .kind) && leb (nodeAt (nodesIn (now (nodes .entry))) j .kind) high)) ⌝ }
+{
+    let i = j as usize;
+    if k <= i {
+        return false;
+    }
+    let kind = nodes[24 * i];
+    (low <= kind) & (kind <= high)
+}
+
 // Whether node j is lower than k and a condition.
 pub fn condition_below(nodes: &[u8], k: usize, j: u16) -> bool
     requires { ⌜ 24 * k ≤ length (now nodes) ⌝ }
     ensures { λ r. ⌜ r ≡ (ltb j k && isCondition (nodeAt (nodesIn (now (nodes .entry))) j)) ⌝ }
 {
-    let i = j as usize;
-    i < k && is_condition(nodes[24 * i])
+    kind_below(nodes, k, j, 1, 8)
 }
 
 // Whether node j is lower than k and a recommendation.
@@ -63,8 +70,7 @@ pub fn advice_below(nodes: &[u8], k: usize, j: u16) -> bool
     requires { ⌜ 24 * k ≤ length (now nodes) ⌝ }
     ensures { λ r. ⌜ r ≡ (ltb j k && isAdvice (nodeAt (nodesIn (now (nodes .entry))) j)) ⌝ }
 {
-    let i = j as usize;
-    i < k && is_advice(nodes[24 * i])
+    kind_below(nodes, k, j, 16, 24)
 }
 
 // Whether node j may be a child of node k, which is of this kind.
@@ -149,7 +155,7 @@ fn shape_ok(nodes: &[u8], sites: &[u8], k: usize, x: Node) -> bool
     requires { ⌜ 24 * k ≤ length (now nodes) ⌝ }
     ensures { λ r. ⌜ r ≡ shapeOk (names (sitesIn (now (sites .entry)))) (nodesIn (now (nodes .entry))) k x ⌝ }
 {
-    (is_condition(x.kind) | is_advice(x.kind))
+    is_kind(x.kind)
         && (x.zero == 0
             && (first_ok(nodes, sites, k, x) && (second_ok(nodes, k, x) && asked_ok(x))))
 }
@@ -200,7 +206,7 @@ pub fn first_bad_node(nodes: &[u8], sites: &[u8]) -> usize
     ensures { λ r. ⌜ (r ≡ firstBad (nodeOk (names (sitesIn (now (sites .entry)))) (nodesIn (now (nodes .entry)))) (length (nodesIn (now (nodes .entry))))) × (r ≤ length (nodesIn (now (nodes .entry)))) ⌝ }
 {
     let n = nodes.len() / 24;
-    let mut row: [u8; 1024] = [0; 1024];
+    let mut row = [0u8; MOST_NODES];
     let mut k = 0;
     while k < n {
         let x = depth_at(nodes, sites, k, &row[..k]);

@@ -46,9 +46,8 @@ pub fn operands_ok(l: [Operand; 4], n: u8, binds: bool, any: bool, binder: bool)
     ensures { λ r. ⌜ r ≡ operandsOk (tagsOf binds any binder) n l ⌝ }
 {
     field_ok(l[0], 0, n, binds, any, binder)
-        && (field_ok(l[1], 1, n, binds, any, binder)
-            && (field_ok(l[2], 2, n, binds, any, binder)
-                && field_ok(l[3], 3, n, binds, any, binder)))
+        & (field_ok(l[1], 1, n, binds, any, binder)
+            & (field_ok(l[2], 2, n, binds, any, binder) & field_ok(l[3], 3, n, binds, any, binder)))
 }
 
 // Whether an operand with this tag speaks of variable v.
@@ -79,7 +78,7 @@ pub fn is_alone(tag: u16, x: Operand, l: [Operand; 4], from: usize) -> bool
 pub fn once_each(tag: u16, l: [Operand; 4]) -> bool
     ensures { λ r. ⌜ r ≡ onceEach tag l ⌝ }
 {
-    is_alone(tag, l[0], l, 1) && (is_alone(tag, l[1], l, 2) && is_alone(tag, l[2], l, 3))
+    is_alone(tag, l[0], l, 1) & (is_alone(tag, l[1], l, 2) & is_alone(tag, l[2], l, 3))
 }
 
 // Whether so many fields are 1 to 4.

@@ -1,7 +1,6 @@
 -- `rulebook::is_alone` meets its contract. The invariant: the variable stands among those from `from` on exactly if it stands among those
 -- from j on. Assumes nothing.
-use mathlib.Core.Path.{_≡_, refl, sym, ap, _∙_}
-use mathlib.Core.Bool.{true, false}
+use mathlib.Core.Path.{_≡_, refl, ap, _∙_}
 use Prim.Native.Nat.{_-_}
 use native.Mathlib.Omega.{arith}
 use borrow.Author.Needs.{needs}
