@@ -1,0 +1,12 @@
+pub mod Eight
+pub mod Masks
+pub mod Binding
+pub mod Programs
+pub mod Parts
+pub mod Order
+pub mod Earlier
+pub mod Fields
+pub mod Verdicts
+pub mod Ordered
+pub mod Rows
+pub mod Refusals

@@ -1,1 +1,3 @@
+pub mod Match
 pub mod House
+pub mod Owners

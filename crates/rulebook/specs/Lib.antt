@@ -1,2 +1,3 @@
 pub mod Parts
 pub mod Rulebook
+pub mod Steps

@@ -1,0 +1,67 @@
+-- The owners of good aspects, actions and rows never fall, in the list and in the first bytes of the records. Assumes nothing.
+use mathlib.Core.Path.{_≡_, refl}
+use mathlib.Core.List.{List}
+use Prim.Native.Nat.{ℕ}
+use lib.Dec.{T}
+use lib.ListN.{length}
+use Rattle.words.specs.Lists.{every}
+use Rattle.words.proofs.Truth.{is-T, part}
+use Rattle.words.proofs.First.{every-at}
+use Rattle.words.proofs.Groups.{Sorted}
+use Rattle.net.specs.Records.{aspectWidth, actionWidth, rowWidth, noAspect, noAction, noRow, readAspect, readAction, readRow}
+use Rattle.net.specs.Net.{aspectAt, actionAt, rowAt}
+use Rattle.net.specs.Image.{bodyIn, aspectsIn, actionsIn, rowsIn}
+use Rattle.net.specs.declared.Node.{Node}
+use Rattle.net.specs.declared.Aspect.{Aspect}
+use Rattle.net.specs.declared.Action.{Action}
+use Rattle.net.specs.declared.Row.{Row}
+use Rattle.rulebook.specs.Rulebook.{aspectRules, aspectOk}
+use Rattle.format.specs.Format.{actionRules, actionOk, rowRules, rowOk}
+use Rattle.format.specs.Verdict.{verdictOf}
+use Rattle.format.specs.declared.Verdict.the-variants.{Accepted}
+use Rattle.format.proofs.Order.{InOrder, sorted-owners, order-bytes}
+use Rattle.format.proofs.Verdicts.{accepted-right}
+
+-- ---- of lists
+module _ (sites : ℕ) where
+  pub aspects-sorted : (nodes : List Node) (l : List Aspect) → T (every (aspectOk sites nodes l) (length l)) → Sorted (λ x. x .owner) noAspect l
+  unfolding aspectOk
+  aspects-sorted nodes l t =
+      sorted-owners (λ x. x .owner) noAspect refl sites l
+      (λ k h. part (aspectRules sites nodes l k (aspectAt l k)) (is-T _ (every-at (aspectOk sites nodes l) (length l) t k h)) 0)
+
+  pub actions-sorted : (l : List Action) → T (every (actionOk sites l) (length l)) → Sorted (λ x. x .owner) noAction l
+  unfolding actionOk
+  actions-sorted l t =
+      sorted-owners (λ x. x .owner) noAction refl sites l
+      (λ k h. part (actionRules sites l k (actionAt l k)) (is-T _ (every-at (actionOk sites l) (length l) t k h)) 0)
+
+  pub rows-sorted : (l : List Row) → T (every (rowOk sites l) (length l)) → Sorted (λ x. x .owner) noRow l
+  unfolding rowOk
+  rows-sorted l t =
+      sorted-owners (λ x. x .owner) noRow refl sites l
+      (λ k h. part (rowRules sites l k (rowAt l k)) (is-T _ (every-at (rowOk sites l) (length l) t k h)) 0)
+
+-- ---- of bytes
+pub aspects-in-order : (s : List ℕ) → Sorted (λ x. x .owner) noAspect (aspectsIn s) → InOrder aspectWidth s
+unfolding readAspect
+aspects-in-order s = order-bytes (λ x. x .owner) noAspect refl readAspect aspectWidth s (λ i. refl)
+
+pub actions-in-order : (s : List ℕ) → Sorted (λ x. x .owner) noAction (actionsIn s) → InOrder actionWidth s
+unfolding readAction
+actions-in-order s = order-bytes (λ x. x .owner) noAction refl readAction actionWidth s (λ i. refl)
+
+pub rows-in-order : (s : List ℕ) → Sorted (λ x. x .owner) noRow (rowsIn s) → InOrder rowWidth s
+unfolding readRow
+rows-in-order s = order-bytes (λ x. x .owner) noRow refl readRow rowWidth s (λ i. refl)
+
+-- ---- of an accepted image
+module _ (b : List ℕ) (e : verdictOf b ≡ Accepted) where
+  pub accepted-aspects : InOrder aspectWidth (bodyIn b 3)
+  accepted-aspects = aspects-in-order (bodyIn b 3) (aspects-sorted _ _ _ (accepted-right b e .records .aspects))
+
+  pub accepted-actions : InOrder actionWidth (bodyIn b 4)
+  accepted-actions = actions-in-order (bodyIn b 4) (actions-sorted _ _ (accepted-right b e .records .actions))
+
+  pub accepted-rows : InOrder rowWidth (bodyIn b 5)
+  accepted-rows = rows-in-order (bodyIn b 5) (rows-sorted _ _ (accepted-right b e .records .rows))

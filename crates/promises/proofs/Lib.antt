@@ -1,0 +1,3 @@
+pub mod Accounting
+pub mod Hits
+pub mod History
