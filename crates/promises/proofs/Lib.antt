@@ -1,3 +1,4 @@
 pub mod Accounting
 pub mod Hits
 pub mod History
+pub mod More
