@@ -2,3 +2,4 @@ pub mod Accounting
 pub mod Hits
 pub mod History
 pub mod More
+pub mod OnMemory
