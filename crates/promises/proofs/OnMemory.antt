@@ -131,11 +131,11 @@ module _ (m₁ m₂ : List ℕ) (bytes₁ : Bytes m₁) (bytes₂ : Bytes m₂) 
       record {
         all-granted = held-answers m₁ bytes₁ held₁ l ∙ rw g (f .all-granted);
         states-alike =
-          state-after m₁ bytes₁ held₁ l
-          ∙ ap (final (rulesHeld m₁) (stateHeld m₁)) g
-          ∙ f .alike
-          ∙ ap (λ (s : State). final (rulesHeld m₂) s is) alike
-          ∙ sym (state-after m₂ bytes₂ held₂ is);
+            state-after m₁ bytes₁ held₁ l
+            ∙ ap (final (rulesHeld m₁) (stateHeld m₁)) g
+            ∙ f .alike
+            ∙ ap (λ (s : State). final (rulesHeld m₂) s is) alike
+            ∙ sym (state-after m₂ bytes₂ held₂ is);
         first-rules = rules-stay m₁ bytes₁ held₁ l;
         second-rules = rules-stay m₂ bytes₂ held₂ is;
       }
