@@ -3,17 +3,19 @@
 -- grants is judged by both and does the same; one that it does not grant is struck out and changes nothing. Assumes nothing.
 use mathlib.Core.Path.{_≡_, refl, sym, ap, _∙_}
 use mathlib.Core.Bool.{Bool, true, false, cond}
-use mathlib.Core.List.{List, [], _∷_, List·Memᴰ, List·Memᴰ·head, List·Memᴰ·tail}
-use Prim.Native.Nat.{ℕ, suc, _<_}
+use mathlib.Core.List.{List, [], _∷_, _++_, List·Memᴰ, List·Memᴰ·head, List·Memᴰ·tail}
+use Prim.Native.Nat.{ℕ, zero, suc, _<_}
 use native.Mathlib.Omega.{arith}
 use lib.Dec.{T, eqb, ltb→lt}
 use lib.ListN.{length}
 use Rattle.belnap.specs.Belnap.{grants}
+use Rattle.words.specs.Lists.{insertAt}
 use Rattle.words.specs.declared.Found.{Found}
 use Rattle.words.specs.declared.Found.the-variants.{At, Nothing}
 use Rattle.words.proofs.Truth.{no, part, is-T}
 use Rattle.words.proofs.First.{every-at}
 use Rattle.net.specs.Net.{State, Rules, aspectAt}
+use Rattle.net.specs.declared.Node.{Node}
 use Rattle.net.specs.declared.Aspect.{Aspect}
 use Rattle.rulebook.specs.Rulebook.{aspectOk, aspectRules}
 use Rattle.format.specs.Format.{wellFormed, netRules}
@@ -112,3 +114,19 @@ module _ (s : State) (r₁ r₂ : Rules) (formed : T (wellFormed (record { state
   -- the second is run through any steps, and those that it did not grant are struck out: the first grants all the others, and ends the same
   pub more-follow : (is : List ℕ) → Follows r₁ s (granted r₂ s is) (final r₂ s is)
   more-follow = follow r₁ r₂ (own s r₁ formed) more s
+
+-- ---- one rule more, at any place: it never moves a denied job
+-- what stands in a list stands in it still when one more is put in
+stands : {x a : Aspect} (k : ℕ) (l : List Aspect) → List·Memᴰ a l → List·Memᴰ a (insertAt k x l)
+stands zero l h = List·Memᴰ·tail h
+stands {x} (suc k) (y ∷ l) (List·Memᴰ·head e) = List·Memᴰ·head e
+stands {x} (suc k) (y ∷ l) (List·Memᴰ·tail h) = List·Memᴰ·tail (stands {x = x} k l h)
+
+-- the rules with one more aspect, which may stand on further nodes
+abbrev pub withRule : Rules → List Node → ℕ → Aspect → Rules
+withRule r extra k a = record { nodes = r .nodes ++ extra; aspects = insertAt k a (r .aspects) }
+
+pub rule-added : (s : State) (r : Rules) → T (wellFormed (record { state = s; rules = r })) → (extra : List Node) (k : ℕ) (a : Aspect) (i : ℕ)
+    → step r s i .answer ≡ Denied → step (withRule r extra k a) s i .answer ≡ Denied
+rule-added s r formed extra k a =
+    more-deny s r (withRule r extra k a) formed (record { extra = extra; begins = refl; keeps = λ b h. stands {x = a} k (r .aspects) h })
