@@ -117,10 +117,10 @@ module _ (s : State) (r₁ r₂ : Rules) (formed : T (wellFormed (record { state
 
 -- ---- one rule more, at any place: it never moves a denied job
 -- what stands in a list stands in it still when one more is put in
-stands : {x a : Aspect} (k : ℕ) (l : List Aspect) → List·Memᴰ a l → List·Memᴰ a (insertAt k x l)
-stands zero l h = List·Memᴰ·tail h
-stands {x} (suc k) (y ∷ l) (List·Memᴰ·head e) = List·Memᴰ·head e
-stands {x} (suc k) (y ∷ l) (List·Memᴰ·tail h) = List·Memᴰ·tail (stands {x = x} k l h)
+stands : (x : Aspect) {a : Aspect} (k : ℕ) (l : List Aspect) → List·Memᴰ a l → List·Memᴰ a (insertAt k x l)
+stands x zero l h = List·Memᴰ·tail h
+stands x (suc k) (y ∷ l) (List·Memᴰ·head e) = List·Memᴰ·head e
+stands x (suc k) (y ∷ l) (List·Memᴰ·tail h) = List·Memᴰ·tail (stands x k l h)
 
 -- the rules with one more aspect, which may stand on further nodes
 abbrev pub withRule : Rules → List Node → ℕ → Aspect → Rules
@@ -129,4 +129,4 @@ withRule r extra k a = record { nodes = r .nodes ++ extra; aspects = insertAt k 
 pub rule-added : (s : State) (r : Rules) → T (wellFormed (record { state = s; rules = r })) → (extra : List Node) (k : ℕ) (a : Aspect) (i : ℕ)
     → step r s i .answer ≡ Denied → step (withRule r extra k a) s i .answer ≡ Denied
 rule-added s r formed extra k a =
-    more-deny s r (withRule r extra k a) formed (record { extra = extra; begins = refl; keeps = λ b h. stands {x = a} k (r .aspects) h })
+    more-deny s r (withRule r extra k a) formed (record { extra = extra; begins = refl; keeps = λ b h. stands a k (r .aspects) h })
