@@ -6,7 +6,8 @@ ghost use lib.ListN.{length, take, drop};
 ghost use Rattle.net.specs.Records.{readAspect};
 ghost use Rattle.net.specs.Image.{sitesIn, nodesIn, aspectsIn, rowsIn};
 ghost use Rattle.policy.specs.Owners.{Ordered};
-ghost use Rattle.policy.specs.House.{actOf, termsIn, gatherAll, gives, policy};
+ghost use Rattle.policy.specs.Asked.{Acting};
+ghost use Rattle.policy.specs.House.{actOf, gatherAll, gives, policy};
 use crate::cut::taken;
 use crate::cut::traps;
 use crate::eval::advises;
@@ -27,8 +28,7 @@ fn gives(
     action: Action,
     terms: &[u16; 8],
 ) -> u8
-    requires { ⌜ (at + 32 ≤ length (now aspects)) × (source < length (now (now sites)) / 32) × (target < length (now (now sites)) / 32) ⌝ }
-    requires { ⌜ (now terms ≡ termsIn (sitesIn (now (now sites))) (actOf source target action)) × (length (now (now nodes)) < 2 ^ 64) × Ordered 10 (now (now rows)) ⌝ }
+    requires { ⌜ (at + 32 ≤ length (now aspects)) × Acting (actOf source target action) (now (now nodes)) (now (now sites)) (now (now rows)) (now terms) ⌝ }
     ensures { λ r. ⌜ (r ≡ gives (nodesIn (now (now (nodes .entry)))) (sitesIn (now (now (sites .entry)))) (rowsIn (now (now (rows .entry)))) (actOf source target action) (readAspect (now (aspects .entry)) at)) × (r < 4) ⌝ }
 {
     if !traps(aspects, at, *sites, source, target, action) {
@@ -72,8 +72,7 @@ fn gathered(
     action: Action,
     terms: &[u16; 8],
 ) -> u8
-    requires { ⌜ (first + count ≤ length (now aspects) / 32) × (source < length (now (now sites)) / 32) × (target < length (now (now sites)) / 32) ⌝ }
-    requires { ⌜ (now terms ≡ termsIn (sitesIn (now (now sites))) (actOf source target action)) × (length (now (now nodes)) < 2 ^ 64) × Ordered 10 (now (now rows)) ⌝ }
+    requires { ⌜ (first + count ≤ length (now aspects) / 32) × Acting (actOf source target action) (now (now nodes)) (now (now sites)) (now (now rows)) (now terms) ⌝ }
     ensures { λ r. ⌜ (r ≡ gatherAll (map (gives (nodesIn (now (now (nodes .entry)))) (sitesIn (now (now (sites .entry)))) (rowsIn (now (now (rows .entry)))) (actOf source target action)) (take count (drop first (aspectsIn (now (aspects .entry))))))) × (r < 4) ⌝ }
 {
     let mut value = 0;
@@ -110,8 +109,7 @@ pub fn policy(
     action: Action,
     terms: &[u16; 8],
 ) -> u8
-    requires { ⌜ (site + 1 < 2 ^ 64) × (source < length (now (now sites)) / 32) × (target < length (now (now sites)) / 32) ⌝ }
-    requires { ⌜ (now terms ≡ termsIn (sitesIn (now (now sites))) (actOf source target action)) × (length (now (now nodes)) < 2 ^ 64) × Ordered 32 (now aspects) × Ordered 10 (now (now rows)) ⌝ }
+    requires { ⌜ (site + 1 < 2 ^ 64) × Ordered 32 (now aspects) × Acting (actOf source target action) (now (now nodes)) (now (now sites)) (now (now rows)) (now terms) ⌝ }
     ensures { λ r. ⌜ (r ≡ policy (nodesIn (now (now (nodes .entry)))) (sitesIn (now (now (sites .entry)))) (rowsIn (now (now (rows .entry)))) (actOf source target action) site (aspectsIn (now (aspects .entry)))) × (r < 4) ⌝ }
 {
     let own = group(aspects, 32, site);

@@ -24,13 +24,13 @@ policy-requires : tie.Need-policy-requires
 policy-requires c κs =
     let t = c .before .before .before .before .before .before in
     let s = t .before .before .before .before .before .before .before in
-    ((omega arith, s .pre .0, s .pre .1), (levels t, omega arith, s .pre .2, s .pre .3))
+    (omega arith, s .pre .2, record { source-there = s .pre .0; target-there = s .pre .1; with-terms = levels t; counted = omega arith; ordered = s .pre .3 })
 
 policy-requires-2 : tie.Need-policy-requires-2
 policy-requires-2 c κs =
     let t = c .before .before .before .before .before .before .before .before .before .before .before .before .before in
     let s = t .before .before .before .before .before .before .before in
-    ((omega arith, s .pre .0, s .pre .1), (levels t, omega arith, s .pre .2, s .pre .3))
+    (omega arith, s .pre .2, record { source-there = s .pre .0; target-there = s .pre .1; with-terms = levels t; counted = omega arith; ordered = s .pre .3 })
 
 -- the mandatory rules and the source's policy have been gathered
 module _ (c : tie.After-gather) where

@@ -1,13 +1,12 @@
 -- `policy::house::gathered` meets its contract. The invariant: the first i aspects are gathered. Assumes nothing.
 use denote.Ref.{now}
-use mathlib.Core.Path.{_≡_, refl, sym, ap, _∙_}
+use mathlib.Core.Path.{_≡_, refl}
 use mathlib.Core.List.{List, map}
 use Prim.Native.Nat.{ℕ, _-_, _+_, _/_, _≤_, _<_}
 use native.Mathlib.Omega.{arith}
 use native.Mathlib.Numerals.{add-one}
 use borrow.Author.Needs.{needs}
-use lib.ListN.{length, getD, take, drop}
-use Rattle.belnap.specs.Belnap.{gatherOf}
+use lib.ListN.{length, take, drop}
 use Rattle.net.specs.Records.{aspectWidth, noAspect, readAspect}
 use Rattle.net.specs.Image.{sitesIn, nodesIn, aspectsIn, rowsIn}
 use Rattle.net.specs.declared.Action.{Action}
@@ -30,7 +29,7 @@ abbrev μ-loop : tie.MeasureT-loop
 μ-loop first count aspects nodes sites rows source target action terms value₀ i₀ value i = count - i
 
 gives-requires : tie.Need-gives-requires Inv-loop μ-loop
-gives-requires c κs = let s = c .before .before .before in ((omega arith, s .pre .0 .1, s .pre .0 .2), s .pre .1)
+gives-requires c κs = let s = c .before .before .before in (omega arith, s .pre .1)
 
 loop-again : tie.Need-loop-again Inv-loop μ-loop
 loop-again c =

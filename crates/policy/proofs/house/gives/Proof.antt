@@ -2,7 +2,6 @@
 use denote.Ref.{now}
 use mathlib.Core.Path.{_≡_, refl, sym, ap, _∙_}
 use mathlib.Core.List.{List}
-use Prim.Native.Nat.{ℕ}
 use native.Mathlib.Omega.{arith}
 use borrow.Author.Needs.{needs}
 use lib.Dec.{lit<}
@@ -52,7 +51,7 @@ condition c =
     let t = k .before .before in
     let s = t .before .before .before .before .before .before in
     c .holds .ensures
-    ∙ ap yes (value-asked (sites s) (rows s) (act s) (aspect s) (now (now (s .args .nodes))) (k .size-at .result) (s .pre .1 .0) (t .taken .ensures) refl
+    ∙ ap yes (value-asked (sites s) (rows s) (act s) (aspect s) (now (now (s .args .nodes))) (k .size-at .result) (s .pre .1 .with-terms) (t .taken .ensures) refl
     ∙ ap (valueAt (askOf (sites s) (rows s) (act s) (aspect s)) (nodes s)) (k .size-at .ensures .0 ∙ sym (condition-in (now (s .args .aspects)) (s .args .at))))
 
 recommendation : (c : tie.After-advises)
@@ -63,7 +62,7 @@ recommendation c =
     let t = k .before .before .before .before .before .before in
     let s = t .before .before .before .before .before .before in
     c .advises .ensures
-    ∙ ap advice (value-asked (sites s) (rows s) (act s) (aspect s) (now (now (s .args .nodes))) (k .size-at2 .result) (s .pre .1 .0) (t .taken .ensures) refl
+    ∙ ap advice (value-asked (sites s) (rows s) (act s) (aspect s) (now (now (s .args .nodes))) (k .size-at2 .result) (s .pre .1 .with-terms) (t .taken .ensures) refl
     ∙ ap (valueAt (askOf (sites s) (rows s) (act s) (aspect s)) (nodes s)) (k .size-at2 .ensures .0 ∙ sym (recommendation-in (now (s .args .aspects)) (s .args .at))))
 
 -- the whole table, eight terms and eight variables are handed over
@@ -71,13 +70,25 @@ holds-requires : tie.Need-holds-requires
 holds-requires c κs =
     let t = c .before .before .before in
     let s = t .before .before .before .before .before .before in
-    (omega arith, omega arith, ap length (s .pre .1 .0), ap length (t .taken .ensures) ∙ taken-length (sites s) (act s) (aspect s), s .pre .1 .2)
+    let p = s .pre .1 in record {
+      there = omega arith;
+      counted = omega arith;
+      eight-terms = ap length (p .with-terms);
+      eight-vars = ap length (t .taken .ensures) ∙ taken-length (sites s) (act s) (aspect s);
+      ordered = p .ordered;
+    }
 
 advises-requires : tie.Need-advises-requires
 advises-requires c κs =
     let t = c .before .before .before .before .before .before .before in
     let s = t .before .before .before .before .before .before in
-    (omega arith, omega arith, ap length (s .pre .1 .0), ap length (t .taken .ensures) ∙ taken-length (sites s) (act s) (aspect s), s .pre .1 .2)
+    let p = s .pre .1 in record {
+      there = omega arith;
+      counted = omega arith;
+      eight-terms = ap length (p .with-terms);
+      eight-vars = ap length (t .taken .ensures) ∙ taken-length (sites s) (act s) (aspect s);
+      ordered = p .ordered;
+    }
 
 returns-2 : tie.Need-returns-2
 returns-2 c =

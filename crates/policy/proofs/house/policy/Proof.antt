@@ -23,7 +23,7 @@ module _ (c : tie.After-group) where
   own : house (start .args .site) (aspectsIn (now (start .args .aspects))) ≡ take (c .group .result .count) (drop (c .group .result .first) (aspectsIn (now (start .args .aspects))))
   own =
       let a = start .args in
-      owned readAspect (λ x. x .owner) noAspect aspectWidth (now (a .aspects)) (aspect-owner (now (a .aspects))) (start .pre .1 .2) (a .site) (c .group .result .first) (c .group .result .count) (c .group .ensures)
+      owned readAspect (λ x. x .owner) noAspect aspectWidth (now (a .aspects)) (aspect-owner (now (a .aspects))) (start .pre .1) (a .site) (c .group .result .first) (c .group .result .count) (c .group .ensures)
 
 returns : tie.Need-returns
 unfolding policy
