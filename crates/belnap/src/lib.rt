@@ -17,18 +17,21 @@ const IMPLIES: [[u8; 4]; 4] = [[0, 1, 2, 3], [0, 1, 2, 3], [1, 1, 1, 1], [1, 1, 
 
 const BEFORE: [[u8; 4]; 4] = [[0, 1, 2, 3], [1, 1, 1, 1], [2, 2, 2, 2], [3, 3, 3, 3]];
 
-// The six tables in the order of the node kinds 19 to 24.
-const TABLES: [[[u8; 4]; 4]; 6] = [AND, OR, CONSENSUS, GATHER, IMPLIES, BEFORE];
-
-// The operator numbered op, from 0, of two values.
+// The operator numbered op, from 0 and in the order of the node kinds 19 to 24, of two values.
 pub fn operate(op: u8, p: u8, q: u8) -> u8
     requires { ⌜ (op < 6) × (p < 4) × (q < 4) ⌝ }
     ensures { λ r. ⌜ (r ≡ operateOf op p q) × (r < 4) ⌝ }
 {
-    let k = op as usize;
     let i = p as usize;
     let j = q as usize;
-    TABLES[k][i][j]
+    match op {
+        0 => AND[i][j],
+        1 => OR[i][j],
+        2 => CONSENSUS[i][j],
+        3 => GATHER[i][j],
+        4 => IMPLIES[i][j],
+        _ => BEFORE[i][j],
+    }
 }
 
 // Gather keeps the bits that either has.
@@ -36,7 +39,9 @@ pub fn gather(p: u8, q: u8) -> u8
     requires { ⌜ (p < 4) × (q < 4) ⌝ }
     ensures { λ r. ⌜ (r ≡ gatherOf p q) × (r < 4) ⌝ }
 {
-    operate(3, p, q)
+    let i = p as usize;
+    let j = q as usize;
+    GATHER[i][j]
 }
 
 // Not swaps the two bits.

@@ -1,7 +1,7 @@
 -- What an aspect gives, by its two tests; the value of a node of its own, as the evaluators are asked for it; and the three parts of a
 -- judgement, gathered one after the other. Assumes nothing.
-use mathlib.Core.Path.{_≡_, refl, sym, ap, _∙_}
-use mathlib.Core.Bool.{Bool, true, false, cond, _&&_}
+use mathlib.Core.Path.{_≡_, sym, ap, _∙_}
+use mathlib.Core.Bool.{true, false}
 use mathlib.Core.List.{List}
 use Prim.Native.Nat.{ℕ, _/_}
 use lib.ListN.{length, getD}

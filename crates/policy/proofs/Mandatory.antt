@@ -6,7 +6,7 @@ use mathlib.Core.Logic.{_⊎_, inl, inr}
 use Prim.Native.Nat.{ℕ, zero, suc, _<_}
 use native.Mathlib.Nat.{le-of-suc-le-suc, not-suc-le-zero}
 use native.Mathlib.Omega.{arith}
-use lib.Dec.{T, ltb, eqb, ltb→lt}
+use lib.Dec.{ltb, eqb, ltb→lt}
 use lib.ListN.{length, getD, take}
 use Rattle.level.specs.Level.{dominates}
 use Rattle.belnap.specs.Belnap.{grants, gatherOf}

@@ -6,7 +6,7 @@ use mathlib.Core.Bool.{Bool, true, false, cond, _&&_}
 use mathlib.Core.List.{List, [], _∷_, _++_, map, List·Memᴰ, List·Memᴰ·head, List·Memᴰ·tail}
 use mathlib.Core.Logic.{⊎-elim}
 use Prim.Native.Nat.{ℕ, zero, suc, _+_, _≤_, _<_}
-use native.Mathlib.Nat.{eq-or-lt-of-le, le-of-suc-le-suc}
+use native.Mathlib.Nat.{le-refl, eq-or-lt-of-le, le-of-suc-le-suc}
 use native.Mathlib.Omega.{arith}
 use lib.Dec.{T, eqb}
 use lib.ListN.{length, take, length-append, List·getD-append}
@@ -46,7 +46,7 @@ fill-begins : (f : ℕ → List ℕ → ℕ) (n k : ℕ) → k ≤ n → take k 
 unfolding fill
 fill-begins f zero k h = let e : k ≡ 0 = omega arith in rw e
 fill-begins f (suc n) k h =
-    ⊎-elim (λ e. subst (λ (m : ℕ). take m (fill f (suc n)) ≡ fill f m) (sym e) (take-all (suc n) (fill f (suc n)) (rw (length-fill f (suc n)) (omega arith))))
+    ⊎-elim (λ e. subst (λ (m : ℕ). take m (fill f (suc n)) ≡ fill f m) (sym e) (take-all (suc n) (fill f (suc n)) (rw (length-fill f (suc n)) (le-refl (suc n)))))
     (λ l. take-append-le k (fill f n) (f n (fill f n) ∷ []) (rw (length-fill f n) (le-of-suc-le-suc l)) ∙ fill-begins f n k (le-of-suc-le-suc l))
     (eq-or-lt-of-le h)
 

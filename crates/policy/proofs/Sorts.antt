@@ -1,10 +1,10 @@
 -- The values of nodes and their sorts: what a condition's and a recommendation's value says, and that in an accepted table no default is
 -- reached: a child that is lower and of the sort asked for is read as its own node says. Common to conditions and recommendations: a node's
 -- value in any row is worked out from the row below the node. Assumes nothing.
-use mathlib.Core.Path.{_≡_, refl, sym, ap, _∙_}
+use mathlib.Core.Path.{_≡_, refl, ap, _∙_}
 use mathlib.Core.Bool.{Bool, true, false, cond}
 use mathlib.Core.List.{List}
-use Prim.Native.Nat.{ℕ, _+_, _-_, _*_, _/_, _%_, _≤_, _<_}
+use Prim.Native.Nat.{ℕ, _+_, _-_, _%_, _≤_, _<_}
 use native.Mathlib.Omega.{arith}
 use lib.Dec.{eqb}
 use lib.ListN.{getD}

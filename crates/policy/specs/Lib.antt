@@ -2,3 +2,4 @@ pub mod Match
 pub mod House
 pub mod Owners
 pub mod Adding
+pub mod Asked

@@ -1,7 +1,6 @@
 // Cuts: whether an aspect traps an action, and what the cut's variables take. An aspect is read where it stands in its body, no further
 // than the answer needs.
 ghost use mathlib.Core.Path.{_≡_};
-ghost use mathlib.Core.Bool.{_&&_};
 ghost use Prim.Native.Nat.{_+_, _/_, _<_, _≤_};
 ghost use lib.ListN.{length, take};
 ghost use Rattle.words.specs.Lists.{fitAll};

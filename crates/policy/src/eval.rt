@@ -2,14 +2,13 @@
 // numbers. Each reads a node's kind where it stands in the table, and then only the fields that this kind has. A node that is not below
 // its parent, and one of the other sort, is false or 0: no accepted table has one.
 ghost use mathlib.Core.Path.{_≡_};
-ghost use mathlib.Core.Bool.{_&&_};
-ghost use Prim.Native.Nat.{_+_, _*_, _^_, _≤_, _<_};
+ghost use Prim.Native.Nat.{_+_, _≤_};
 ghost use lib.ListN.{length, getD};
 ghost use Rattle.level.specs.Level.{dominates};
 ghost use Rattle.words.specs.Bytes.{u16At};
 ghost use Rattle.net.specs.Records.{fourOperands};
 ghost use Rattle.net.specs.Image.{sitesIn, nodesIn, rowsIn};
-ghost use Rattle.policy.specs.Owners.{Ordered};
+ghost use Rattle.policy.specs.Asked.{Evaluable};
 ghost use Rattle.policy.specs.House.{name, meant, known, ask, yes, advice, rowOf};
 use crate::rows::test;
 use crate::vars::element;
@@ -54,7 +53,7 @@ pub fn holds(
     terms: &[u16; 8],
     vars: &[u16; 8],
 ) -> bool
-    requires { ⌜ (24 * top ≤ length (now (now nodes))) × (24 * top < 2 ^ 64) × (length (now terms) ≡ 8) × (length (now vars) ≡ 8) × Ordered 10 (now (now rows)) ⌝ }
+    requires { ⌜ Evaluable top (now (now nodes)) (now (now rows)) (now terms) (now vars) ⌝ }
     ensures { λ r. ⌜ r ≡ yes (getD (rowOf (ask (sitesIn (now (now (sites .entry)))) (rowsIn (now (now (rows .entry)))) (now (terms .entry)) (now (vars .entry))) (nodesIn (now (now (nodes .entry)))) top) n 0) ⌝ }
 {
     if top <= n {
@@ -96,7 +95,7 @@ pub fn advises(
     terms: &[u16; 8],
     vars: &[u16; 8],
 ) -> u8
-    requires { ⌜ (24 * top ≤ length (now (now nodes))) × (24 * top < 2 ^ 64) × (length (now terms) ≡ 8) × (length (now vars) ≡ 8) × Ordered 10 (now (now rows)) ⌝ }
+    requires { ⌜ Evaluable top (now (now nodes)) (now (now rows)) (now terms) (now vars) ⌝ }
     ensures { λ r. ⌜ r ≡ advice (getD (rowOf (ask (sitesIn (now (now (sites .entry)))) (rowsIn (now (now (rows .entry)))) (now (terms .entry)) (now (vars .entry))) (nodesIn (now (now (nodes .entry)))) top) n 0) ⌝ }
 {
     if top <= n {

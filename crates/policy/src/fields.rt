@@ -1,11 +1,10 @@
-// Matching: whether a row fits an action's fields, and what the fields that bind take from it.
+// Matching: whether a row fits an action's fields.
 ghost use mathlib.Core.Path.{_≡_};
 ghost use mathlib.Core.Bool.{_||_};
-ghost use Prim.Native.Nat.{_<_, _≤_, min};
+ghost use Prim.Native.Nat.{min};
 ghost use lib.Dec.{eqb};
 ghost use Rattle.net.specs.Net.{isBinding, fieldsOf, valuesOf};
-ghost use Rattle.policy.specs.Match.{fits, bound};
-use crate::vars::assign;
+ghost use Rattle.policy.specs.Match.{fits};
 use net::Action;
 use net::Operand;
 use net::Row;
@@ -49,21 +48,4 @@ pub fn fits(action: Action, row: Row) -> bool
         i += 1;
     }
     true
-}
-
-// The variables, those that the fields bind now bound to the row's values.
-pub fn bound(action: Action, row: Row, vars: [u16; 8]) -> [u16; 8]
-    ensures { λ r. ⌜ r ≡ bound (fieldsOf action) (valuesOf row) vars ⌝ }
-{
-    let fields = action.fields;
-    let values = row.fields;
-    let n = shared(action.count, row.count);
-    let mut v = vars;
-    let mut i = 0;
-    while i < n {
-        let x = fields[i];
-        assign(&mut v, x.tag == 2, x.value, values[i]);
-        i += 1;
-    }
-    v
 }

@@ -2,11 +2,12 @@
 ghost use mathlib.Core.Path.{_≡_};
 ghost use mathlib.Core.List.{map};
 ghost use Prim.Native.Nat.{_+_, _/_, _^_, _<_, _≤_};
-ghost use lib.ListN.{length};
+ghost use lib.ListN.{length, take, drop};
 ghost use Rattle.net.specs.Records.{readAspect};
 ghost use Rattle.net.specs.Image.{sitesIn, nodesIn, aspectsIn, rowsIn};
 ghost use Rattle.policy.specs.Owners.{Ordered};
-ghost use Rattle.policy.specs.House.{actOf, termsIn, gives, policy};
+ghost use Rattle.policy.specs.Asked.{Acting};
+ghost use Rattle.policy.specs.House.{actOf, gatherAll, gives, policy};
 use crate::cut::taken;
 use crate::cut::traps;
 use crate::eval::advises;
@@ -19,29 +20,29 @@ use words::size_at;
 fn gives(
     aspects: &[u8],
     at: usize,
-    nodes: &[u8],
-    sites: &[u8],
-    rows: &[u8],
+    nodes: &&[u8],
+    sites: &&[u8],
+    rows: &&[u8],
     source: usize,
     target: usize,
     action: Action,
     terms: &[u16; 8],
 ) -> u8
-    requires { ⌜ (at + 32 ≤ length (now aspects)) × (source < length (now sites) / 32) × (target < length (now sites) / 32) ⌝ }
-    requires { ⌜ (now terms ≡ termsIn (sitesIn (now sites)) (actOf source target action)) × Ordered 10 (now rows) ⌝ }
-    ensures { λ r. ⌜ (r ≡ gives (nodesIn (now (nodes .entry))) (sitesIn (now (sites .entry))) (rowsIn (now (rows .entry))) (actOf source target action) (readAspect (now (aspects .entry)) at)) × (r < 4) ⌝ }
+    requires { ⌜ (at + 32 ≤ length (now aspects)) × Acting (actOf source target action) (now (now nodes)) (now (now sites)) (now (now rows)) (now terms) ⌝ }
+    ensures { λ r. ⌜ (r ≡ gives (nodesIn (now (now (nodes .entry)))) (sitesIn (now (now (sites .entry)))) (rowsIn (now (now (rows .entry)))) (actOf source target action) (readAspect (now (aspects .entry)) at)) × (r < 4) ⌝ }
 {
-    if !traps(aspects, at, sites, source, target, action) {
+    if !traps(aspects, at, *sites, source, target, action) {
         return 0;
     }
-    let vars = taken(aspects, at, sites, source, target, action);
-    let top = nodes.len() / 24;
+    let vars = taken(aspects, at, *sites, source, target, action);
+    let table = *nodes;
+    let top = table.len() / 24;
     if !holds(
         size_at(aspects, at + 28),
         top,
-        &nodes,
-        &sites,
-        &rows,
+        nodes,
+        sites,
+        rows,
         terms,
         &vars,
     ) {
@@ -50,33 +51,30 @@ fn gives(
     advises(
         size_at(aspects, at + 30),
         top,
-        &nodes,
-        &sites,
-        &rows,
+        nodes,
+        sites,
+        rows,
         terms,
         &vars,
     )
 }
 
-// What the policy of a site gives the action: its own aspects alone are looked at, and gathered.
-pub fn policy(
-    site: usize,
+// What `count` aspects from number `first` on give the action, gathered.
+fn gathered(
+    first: usize,
+    count: usize,
     aspects: &[u8],
-    nodes: &[u8],
-    sites: &[u8],
-    rows: &[u8],
+    nodes: &&[u8],
+    sites: &&[u8],
+    rows: &&[u8],
     source: usize,
     target: usize,
     action: Action,
     terms: &[u16; 8],
 ) -> u8
-    requires { ⌜ (site + 1 < 2 ^ 64) × (source < length (now sites) / 32) × (target < length (now sites) / 32) ⌝ }
-    requires { ⌜ (now terms ≡ termsIn (sitesIn (now sites)) (actOf source target action)) × Ordered 32 (now aspects) × Ordered 10 (now rows) ⌝ }
-    ensures { λ r. ⌜ (r ≡ policy (nodesIn (now (nodes .entry))) (sitesIn (now (sites .entry))) (rowsIn (now (rows .entry))) (actOf source target action) site (aspectsIn (now (aspects .entry)))) × (r < 4) ⌝ }
+    requires { ⌜ (first + count ≤ length (now aspects) / 32) × Acting (actOf source target action) (now (now nodes)) (now (now sites)) (now (now rows)) (now terms) ⌝ }
+    ensures { λ r. ⌜ (r ≡ gatherAll (map (gives (nodesIn (now (now (nodes .entry)))) (sitesIn (now (now (sites .entry)))) (rowsIn (now (now (rows .entry)))) (actOf source target action)) (take count (drop first (aspectsIn (now (aspects .entry))))))) × (r < 4) ⌝ }
 {
-    let own = group(aspects, 32, site);
-    let first = own.first;
-    let count = own.count;
     let mut value = 0;
     let mut i = 0;
     while i < count {
@@ -97,4 +95,37 @@ pub fn policy(
         i += 1;
     }
     value
+}
+
+// What the policy of a site gives the action: its own aspects alone are looked at, and gathered.
+pub fn policy(
+    site: usize,
+    aspects: &[u8],
+    nodes: &&[u8],
+    sites: &&[u8],
+    rows: &&[u8],
+    source: usize,
+    target: usize,
+    action: Action,
+    terms: &[u16; 8],
+) -> u8
+    requires { ⌜ (site + 1 < 2 ^ 64) × Ordered 32 (now aspects) × Acting (actOf source target action) (now (now nodes)) (now (now sites)) (now (now rows)) (now terms) ⌝ }
+    ensures { λ r. ⌜ (r ≡ policy (nodesIn (now (now (nodes .entry)))) (sitesIn (now (now (sites .entry)))) (rowsIn (now (now (rows .entry)))) (actOf source target action) site (aspectsIn (now (aspects .entry)))) × (r < 4) ⌝ }
+{
+    let own = group(aspects, 32, site);
+    if own.count == 0 {
+        return 0;
+    }
+    gathered(
+        own.first,
+        own.count,
+        aspects,
+        nodes,
+        sites,
+        rows,
+        source,
+        target,
+        action,
+        terms,
+    )
 }

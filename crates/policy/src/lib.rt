@@ -21,8 +21,8 @@ mod rows;
 mod rules;
 mod vars;
 
-pub use fields::bound;
 pub use fields::fits;
+pub use vars::bound;
 
 // The value of step 4: the mandatory rules, the source's policy and the target's, gathered. A site that acts on itself has one policy.
 pub fn judge(
@@ -42,9 +42,9 @@ pub fn judge(
     let from = policy(
         source,
         aspects,
-        nodes,
-        sites,
-        rows,
+        &nodes,
+        &sites,
+        &rows,
         source,
         target,
         action,
@@ -57,9 +57,9 @@ pub fn judge(
     let to = policy(
         target,
         aspects,
-        nodes,
-        sites,
-        rows,
+        &nodes,
+        &sites,
+        &rows,
         source,
         target,
         action,

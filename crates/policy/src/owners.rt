@@ -1,6 +1,5 @@
 // The records of one owner stand together in their body: where they begin, and how many they are, found by halving.
 ghost use Prim.Native.Nat.{_+_, _^_, _<_};
-ghost use lib.ListN.{length};
 ghost use Rattle.policy.specs.Owners.{Ordered, Grouped};
 use words::count_below;
 

@@ -1,8 +1,7 @@
 // The mandatory rules: a constant table of capability, left term, right term, walked for each action.
 ghost use mathlib.Core.Path.{_≡_};
 ghost use Prim.Native.Nat.{_<_};
-ghost use lib.ListN.{length, getD};
-ghost use Rattle.policy.specs.House.{termsOf, ruleGives, mandatory, mandatoryRules, demands};
+ghost use Rattle.policy.specs.House.{termsOf, ruleGives, mandatory};
 use level::Level;
 use net::Site;
 

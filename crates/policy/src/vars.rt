@@ -1,9 +1,14 @@
-// Eight variables, or terms: set, looked up, and compared. 0 means unset.
+// Eight variables, or terms: set, bound to a row's values, looked up, and compared. 0 means unset.
 ghost use mathlib.Core.Path.{_≡_};
 ghost use mathlib.Core.Bool.{cond};
 ghost use lib.ListN.{length, getD, set};
+ghost use Rattle.net.specs.Net.{fieldsOf, valuesOf};
+ghost use Rattle.policy.specs.Match.{bound};
 ghost use Rattle.policy.specs.House.{meant, known};
+use crate::fields::shared;
+use net::Action;
 use net::Operand;
+use net::Row;
 
 // Sets a variable, where the test holds; there is none from 8 on.
 pub fn assign(vars: &mut [u16; 8], test: bool, variable: u16, value: u16)
@@ -18,6 +23,23 @@ pub fn assign(vars: &mut [u16; 8], test: bool, variable: u16, value: u16)
         return;
     }
     vars[at] = value;
+}
+
+// The variables, those that the fields bind now bound to the row's values.
+pub fn bound(action: Action, row: Row, vars: [u16; 8]) -> [u16; 8]
+    ensures { λ r. ⌜ r ≡ bound (fieldsOf action) (valuesOf row) vars ⌝ }
+{
+    let fields = action.fields;
+    let values = row.fields;
+    let n = shared(action.count, row.count);
+    let mut v = vars;
+    let mut i = 0;
+    while i < n {
+        let x = fields[i];
+        assign(&mut v, x.tag == 2, x.value, values[i]);
+        i += 1;
+    }
+    v
 }
 
 // Number i of eight; 0 from 8 on.

@@ -1,7 +1,7 @@
 -- `policy::cut::fields_take` meets its contract. The invariant: the variables are those after the first i patterns and fields. Assumes nothing.
 use denote.Ref.{now}
 use mathlib.Core.Path.{_≡_, refl, sym, ap, _∙_}
-use Prim.Native.Nat.{_-_, _≤_, _<_, min}
+use Prim.Native.Nat.{_-_, _≤_, min}
 use native.Mathlib.Omega.{arith}
 use native.Mathlib.Numerals.{add-one}
 use borrow.Author.Needs.{needs}

@@ -1,6 +1,6 @@
 -- `policy::cut::named` meets its contract: the name stands at the front of the site's record. Assumes nothing.
 use denote.Ref.{now}
-use mathlib.Core.Path.{_≡_, sym, ap, _∙_}
+use mathlib.Core.Path.{sym, ap, _∙_}
 use borrow.Author.Needs.{needs}
 use Rattle.policy.specs.House.{name}
 use Rattle.policy.proofs.Bodies.{name-in}

@@ -1,5 +1,4 @@
 -- `policy::cut::pattern_fits` meets its contract: by the pattern's tag. Assumes nothing.
-use borrow.Author.Needs.{needs}
 use borrow.Author.Tests.{ne-eqb}
 use Rattle.policy.specs.House.{patternFits}
 use Rattle.policy.proofs.cut.pattern_fits.Statement.{statement}

@@ -1,7 +1,6 @@
 -- `policy::cut::traps` meets its contract: each test is one of the definition's, in its order. Assumes nothing.
 use denote.Ref.{now}
 use mathlib.Core.Path.{_≡_}
-use mathlib.Core.Bool.{_&&_}
 use Prim.Native.Nat.{_+_}
 use borrow.Author.Needs.{needs}
 use borrow.Author.Tests.{eq-eqb, ne-eqb}

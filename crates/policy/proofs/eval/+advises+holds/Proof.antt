@@ -1,20 +1,19 @@
 -- The proof of the cycle of calls {advises, holds}. Each one's measure is `top`: a node's children are asked for below the node itself.
 -- Assumes nothing.
 use denote.Ref.{now}
-use mathlib.Core.Path.{_≡_, refl, sym, ap, _∙_}
+use mathlib.Core.Path.{_≡_, ap}
 use mathlib.Core.Bool.{Bool, not}
 use Prim.Native.Nat.{ℕ, _*_, _^_, _<_, _≤_}
 use native.Mathlib.Omega.{arith}
 use borrow.Author.Needs.{needs}
-use borrow.Author.Tests.{lt-ltb, le-ltb, ne-eqb}
+use borrow.Author.Tests.{ne-eqb}
 use borrow.Fn.Kinds.{In}
 use borrow.Fn.PlainCycle.{Measures, is, falls, and}
-use lib.ListN.{length, getD}
-use lib.Dec.{lit<}
+use lib.ListN.{getD}
 use Rattle.words.proofs.Truth.{so, fails, holds as kept}
 use Rattle.net.specs.Records.{fourOperands, readNode}
 use Rattle.net.specs.Image.{sitesIn, nodesIn, rowsIn}
-use Rattle.policy.specs.Owners.{Ordered}
+use Rattle.policy.specs.Asked.{Evaluable}
 use Rattle.policy.specs.House.{Ask, ask, yes, advice, testOf, wanted, conditionOf, adviceOf, rowOf}
 use Rattle.policy.proofs.Values.{yes-past, yes-here, yes-else, advice-past, advice-here, advice-else, advice-beyond}
 use Rattle.policy.proofs.eval.advises.Reads as advises
@@ -71,17 +70,16 @@ module _ (t : ℕ) where
     abbrev a-ask : Ask
     a-ask = let a = a-start .args in ask (sitesIn (now (now (a .sites)))) (rowsIn (now (now (a .rows)))) (now (a .terms)) (now (a .vars))
 
-    a-child : (let a = a-start .args in
-        (a .n < t) × ((24 * a .n ≤ length (now (now (a .nodes)))) × (24 * a .n < 2 ^ 64) × (length (now (a .terms)) ≡ 8) × (length (now (a .vars)) ≡ 8) × Ordered 10 (now (now (a .rows)))))
+    a-child : (let a = a-start .args in (a .n < t) × Evaluable (a .n) (now (now (a .nodes))) (now (now (a .rows))) (now (a .terms)) (now (a .vars)))
     a-child =
         let p = a-start .pre in
-        let h = lower (k .before .before .if1 .left) (p .0) (p .1 .0) (p .1 .1) in
-        (h .0, (h .1, h .2, p .1 .2, p .1 .3, p .1 .4))
+        let h = lower (k .before .before .if1 .left) (p .0) (p .1 .there) (p .1 .counted) in
+        (h .0, record { there = h .1; counted = h .2; eight-terms = p .1 .eight-terms; eight-vars = p .1 .eight-vars; ordered = p .1 .ordered })
 
     advice-is : {r : ℕ}
         → (let a = a-start .args in 16 ≤ getD (now (now (a .nodes))) (24 * a .n) 0 → r ≡ adviceOf (readNode (now (now (a .nodes))) (24 * a .n)) (rowOf a-ask (nodesIn (now (now (a .nodes)))) (a .n))
         → r ≡ advice (getD (rowOf a-ask (nodesIn (now (now (a .nodes)))) (a .top)) (a .n) 0))
-    advice-is h e = let a = a-start .args in advice-here a-ask (now (now (a .nodes))) (a .n) (a .top) (k .before .before .if1 .left) (a-start .pre .1 .0) h e
+    advice-is h e = let a = a-start .args in advice-here a-ask (now (now (a .nodes))) (a .n) (a .top) (k .before .before .if1 .left) (a-start .pre .1 .there) h e
 
   -- where `holds` has its node's kind
   module _ (k : holds-lts.After-shared-slice-known holds-claims holds-at holds.Post) where
@@ -91,17 +89,16 @@ module _ (t : ℕ) where
     abbrev h-ask : Ask
     h-ask = let a = h-start .args in ask (sitesIn (now (now (a .sites)))) (rowsIn (now (now (a .rows)))) (now (a .terms)) (now (a .vars))
 
-    h-child : (let a = h-start .args in
-        (a .n < t) × ((24 * a .n ≤ length (now (now (a .nodes)))) × (24 * a .n < 2 ^ 64) × (length (now (a .terms)) ≡ 8) × (length (now (a .vars)) ≡ 8) × Ordered 10 (now (now (a .rows)))))
+    h-child : (let a = h-start .args in (a .n < t) × Evaluable (a .n) (now (now (a .nodes))) (now (now (a .rows))) (now (a .terms)) (now (a .vars)))
     h-child =
         let p = h-start .pre in
-        let h = lower (k .before .before .if1 .left) (p .0) (p .1 .0) (p .1 .1) in
-        (h .0, (h .1, h .2, p .1 .2, p .1 .3, p .1 .4))
+        let h = lower (k .before .before .if1 .left) (p .0) (p .1 .there) (p .1 .counted) in
+        (h .0, record { there = h .1; counted = h .2; eight-terms = p .1 .eight-terms; eight-vars = p .1 .eight-vars; ordered = p .1 .ordered })
 
     yes-is : {r : Bool}
         → (let a = h-start .args in getD (now (now (a .nodes))) (24 * a .n) 0 < 16 → r ≡ conditionOf h-ask (readNode (now (now (a .nodes))) (24 * a .n)) (rowOf h-ask (nodesIn (now (now (a .nodes)))) (a .n))
         → r ≡ yes (getD (rowOf h-ask (nodesIn (now (now (a .nodes)))) (a .top)) (a .n) 0))
-    yes-is h e = let a = h-start .args in yes-here h-ask (now (now (a .nodes))) (a .n) (a .top) (k .before .before .if1 .left) (h-start .pre .1 .0) h e
+    yes-is h e = let a = h-start .args in yes-here h-ask (now (now (a .nodes))) (a .n) (a .top) (k .before .before .if1 .left) (h-start .pre .1 .there) h e
 
   advises-returns : advises-lts.Need-returns advises-claims advises-at advises.Post
   advises-returns c =
@@ -117,13 +114,13 @@ module _ (t : ℕ) where
       let m = c .before in
       let k = m .before in
       let a = a-start k .args in
-      advice-else (a-ask k) (now (now (a .nodes))) (a .n) (a .top) (k .before .before .if1 .left) (a-start k .pre .1 .0) (c .if3 .taken) (m .match .rest .0 .0 .1) (m .match .rest .0 .1) (m .match .rest .1)
+      advice-else (a-ask k) (now (now (a .nodes))) (a .n) (a .top) (k .before .before .if1 .left) (a-start k .pre .1 .there) (c .if3 .taken) (m .match .rest .0 .0 .1) (m .match .rest .0 .1) (m .match .rest .1)
 
   advises-returns-4 : advises-lts.Need-returns-4 advises-claims advises-at advises.Post
   advises-returns-4 c =
       let k = c .before .before .before in
       let a = a-start k .args in
-      advice-beyond (a-ask k) (now (now (a .nodes))) (a .n) (a .top) (k .before .before .if1 .left) (a-start k .pre .1 .0) (c .if4 .taken)
+      advice-beyond (a-ask k) (now (now (a .nodes))) (a .n) (a .top) (k .before .before .if1 .left) (a-start k .pre .1 .there) (c .if4 .taken)
 
   advises-returns-5 : advises-lts.Need-returns-5 advises-claims advises-at advises.Post
   unfolding adviceOf readNode
@@ -201,7 +198,7 @@ module _ (t : ℕ) where
       let k = c .before in
       let a = h-start k .args in
       let r = c .match .rest in
-      yes-else (h-ask k) (now (now (a .nodes))) (a .n) (a .top) (k .before .before .if1 .left) (h-start k .pre .1 .0)
+      yes-else (h-ask k) (now (now (a .nodes))) (a .n) (a .top) (k .before .before .if1 .left) (h-start k .pre .1 .there)
       (r .0 .0 .0 .0 .0 .0 .0 .1) (r .0 .0 .0 .0 .0 .0 .1) (r .0 .0 .0 .0 .0 .1) (r .0 .0 .0 .0 .1) (r .0 .0 .0 .1) (r .0 .0 .1) (r .0 .1) (r .1)
 
 pub +advises+holds-spec : {M : Type 1} → statement M

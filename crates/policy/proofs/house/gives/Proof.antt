@@ -2,7 +2,6 @@
 use denote.Ref.{now}
 use mathlib.Core.Path.{_≡_, refl, sym, ap, _∙_}
 use mathlib.Core.List.{List}
-use Prim.Native.Nat.{ℕ}
 use native.Mathlib.Omega.{arith}
 use borrow.Author.Needs.{needs}
 use lib.Dec.{lit<}
@@ -24,10 +23,10 @@ use Rattle.policy.proofs.house.gives.Tie as tie
 -- what the definition is asked with
 module _ (s : tie.Start) where
   abbrev sites : List Site
-  sites = sitesIn (now (s .args .t4))
+  sites = sitesIn (now (now (s .args .sites)))
 
   abbrev rows : List Row
-  rows = rowsIn (now (s .args .t5))
+  rows = rowsIn (now (now (s .args .rows)))
 
   abbrev act : Act
   act = actOf (s .args .source) (s .args .target) (s .args .action)
@@ -36,59 +35,72 @@ module _ (s : tie.Start) where
   aspect = readAspect (now (s .args .aspects)) (s .args .at)
 
   abbrev nodes : List Node
-  nodes = nodesIn (now (s .args .t3))
+  nodes = nodesIn (now (now (s .args .nodes)))
 
 returns : tie.Need-returns
 returns c =
-    let s = c .before .before .before .before .before .before in
+    let s = c .before .before .before .before in
     (sym (gives-untrapped (sites s) (rows s) (act s) (aspect s) (nodes s) (fails (c .before .traps .ensures) (c .if1 .taken))), lit< tt)
 
 -- the evaluators were asked for the aspect's own condition and recommendation
 condition : (c : tie.After-holds)
-    → (let s = c .before .before .before .before .before .before .before .before .before .before .before .before .before in
+    → (let s = c .before .before .before .before .before .before .before .before .before .before in
     c .holds .result ≡ yes (valueAt (askOf (sites s) (rows s) (act s) (aspect s)) (nodes s) (aspect s .condition)))
 condition c =
-    let k = c .before .before .before .before .before in
-    let s = k .before .before .before .before .before .before .before .before in
+    let k = c .before .before in
+    let t = k .before .before in
+    let s = t .before .before .before .before .before .before in
     c .holds .ensures
-    ∙ ap yes (value-asked (sites s) (rows s) (act s) (aspect s) (now (s .args .t3)) (k .size-at .result) (s .pre .1 .0) (k .before .taken .ensures) refl
+    ∙ ap yes (value-asked (sites s) (rows s) (act s) (aspect s) (now (now (s .args .nodes))) (k .size-at .result) (s .pre .1 .with-terms) (t .taken .ensures) refl
     ∙ ap (valueAt (askOf (sites s) (rows s) (act s) (aspect s)) (nodes s)) (k .size-at .ensures .0 ∙ sym (condition-in (now (s .args .aspects)) (s .args .at))))
 
 recommendation : (c : tie.After-advises)
-    → (let s = c .before .before .before .before .before .before .before .before .before .before .before .before .before .before .before .before .before .before .before .before in
+    → (let s = c .before .before .before .before .before .before .before .before .before .before .before .before .before .before in
     c .advises .result ≡ advice (valueAt (askOf (sites s) (rows s) (act s) (aspect s)) (nodes s) (aspect s .recommendation)))
 recommendation c =
-    let k = c .before .before .before .before .before in
-    let t = k .before .before .before .before .before .before .before .before in
-    let s = t .before .before .before .before .before .before .before in
+    let k = c .before .before in
+    let t = k .before .before .before .before .before .before in
+    let s = t .before .before .before .before .before .before in
     c .advises .ensures
-    ∙ ap advice (value-asked (sites s) (rows s) (act s) (aspect s) (now (s .args .t3)) (k .size-at2 .result) (s .pre .1 .0) (t .taken .ensures) refl
+    ∙ ap advice (value-asked (sites s) (rows s) (act s) (aspect s) (now (now (s .args .nodes))) (k .size-at2 .result) (s .pre .1 .with-terms) (t .taken .ensures) refl
     ∙ ap (valueAt (askOf (sites s) (rows s) (act s) (aspect s)) (nodes s)) (k .size-at2 .ensures .0 ∙ sym (recommendation-in (now (s .args .aspects)) (s .args .at))))
 
 -- the whole table, eight terms and eight variables are handed over
 holds-requires : tie.Need-holds-requires
 holds-requires c κs =
-    let t = c .before .before .before .before .before in
-    let s = t .before .before .before .before .before .before .before in
-    (search needs, search needs, ap length (s .pre .1 .0), ap length (t .taken .ensures) ∙ taken-length (sites s) (act s) (aspect s), s .pre .1 .1)
+    let t = c .before .before .before in
+    let s = t .before .before .before .before .before .before in
+    let p = s .pre .1 in record {
+      there = omega arith;
+      counted = omega arith;
+      eight-terms = ap length (p .with-terms);
+      eight-vars = ap length (t .taken .ensures) ∙ taken-length (sites s) (act s) (aspect s);
+      ordered = p .ordered;
+    }
 
 advises-requires : tie.Need-advises-requires
 advises-requires c κs =
-    let t = c .before .before .before .before .before .before .before .before .before .before .before .before in
-    let s = t .before .before .before .before .before .before .before in
-    (search needs, search needs, ap length (s .pre .1 .0), ap length (t .taken .ensures) ∙ taken-length (sites s) (act s) (aspect s), s .pre .1 .1)
+    let t = c .before .before .before .before .before .before .before in
+    let s = t .before .before .before .before .before .before in
+    let p = s .pre .1 in record {
+      there = omega arith;
+      counted = omega arith;
+      eight-terms = ap length (p .with-terms);
+      eight-vars = ap length (t .taken .ensures) ∙ taken-length (sites s) (act s) (aspect s);
+      ordered = p .ordered;
+    }
 
 returns-2 : tie.Need-returns-2
 returns-2 c =
-    let e = c .before .before .before .before .before .before .before .before in
-    let s = e .before .before .before .before .before .before in
+    let e = c .before .before .before .before .before .before .before in
+    let s = e .before .before .before .before in
     (sym (gives-unless (sites s) (rows s) (act s) (aspect s) (nodes s) (holds (e .before .traps .ensures) (e .if1 .left)) (fails (condition (c .before)) (c .if2 .taken))), lit< tt)
 
 returns-3 : tie.Need-returns-3
 returns-3 c =
-    let f = c .before .before .before .before .before .before in
-    let e = f .before .before .before .before .before .before .before .before in
-    let s = e .before .before .before .before .before .before in
+    let f = c .before .before .before in
+    let e = f .before .before .before .before .before .before .before in
+    let s = e .before .before .before .before in
     (recommendation c ∙ sym (gives-trapped (sites s) (rows s) (act s) (aspect s) (nodes s) (holds (e .before .traps .ensures) (e .if1 .left)) (holds (condition (f .before)) (f .if2 .left))), search needs)
 
 pub gives-spec : {M : Type 1} → statement M

@@ -1,7 +1,6 @@
 -- `policy::owners::group` meets its contract: the two places are those of the definition, in order since the owners never fall. Assumes nothing.
 use denote.Ref.{now}
 use mathlib.Core.Path.{refl}
-use Prim.Native.Nat.{ℕ, _*_, _/_}
 use native.Mathlib.Nat.{mul-div-le}
 use native.Mathlib.Omega.{arith}
 use borrow.Author.Needs.{needs}

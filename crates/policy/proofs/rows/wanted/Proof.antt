@@ -1,7 +1,7 @@
 -- `policy::rows::wanted` meets its contract. The invariant: the first i operands and values fit one another. Assumes nothing.
 use denote.Ref.{now}
 use mathlib.Core.Path.{_≡_, refl, sym, _∙_}
-use mathlib.Core.Bool.{Bool, true, _&&_}
+use mathlib.Core.Bool.{Bool, true}
 use mathlib.Core.List.{List}
 use Prim.Native.Nat.{ℕ, _-_, _≤_, _<_, _+_, min}
 use native.Mathlib.Omega.{arith}

@@ -8,9 +8,8 @@ use native.Mathlib.Omega.{arith}
 use native.Mathlib.Numerals.{add-one}
 use borrow.Author.Needs.{needs}
 use lib.Dec.{lit<}
-use lib.ListN.{length, getD, take}
+use lib.ListN.{length, take}
 use lib.Seq.{take-all}
-use Rattle.belnap.specs.Belnap.{gatherOf}
 use Rattle.policy.specs.House.{ruleGives, mandatoryRules, demands, gatherAll, mandatory}
 use Rattle.policy.proofs.Mandatory.{gather-more, terms-inside, mandatory-denies}
 use Rattle.policy.proofs.rules.mandatory.Statement.{statement}

@@ -1,6 +1,6 @@
 -- `policy::vars::assign` meets its contract: past the eighth variable there is nothing to set. Assumes nothing.
 use denote.Ref.{now}
-use mathlib.Core.Path.{_≡_, sym}
+use mathlib.Core.Path.{sym}
 use native.Mathlib.Omega.{arith}
 use borrow.Author.Needs.{needs}
 use borrow.Author.Tests.{not-true, not-false}

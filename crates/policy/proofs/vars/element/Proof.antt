@@ -1,6 +1,6 @@
 -- `policy::vars::element` meets its contract: past the eighth there is nothing. Assumes nothing.
 use denote.Ref.{now}
-use mathlib.Core.Path.{_≡_, sym}
+use mathlib.Core.Path.{sym}
 use native.Mathlib.Omega.{arith}
 use borrow.Author.Needs.{needs}
 use lib.ListN.{List·getD-eq-default}

@@ -1,18 +1,17 @@
 -- `policy::bound` meets its contract. The invariant: the variables are those after the first i fields and values. Assumes nothing.
 use mathlib.Core.Path.{_≡_, refl, sym, ap, _∙_}
-use Prim.Native.Nat.{ℕ, _-_, _≤_, _<_, _+_, min}
+use Prim.Native.Nat.{_-_, _≤_, min}
 use native.Mathlib.Omega.{arith}
 use native.Mathlib.Numerals.{add-one}
 use borrow.Author.Needs.{needs}
 use lib.ListN.{length, getD, take}
-use Rattle.net.specs.Net.{fieldsOf, valuesOf}
 use Rattle.net.specs.Records.{noOperand}
 use Rattle.policy.specs.Match.{through, binds, bound}
 use Rattle.policy.proofs.Four.{four-fields, four-values}
 use Rattle.policy.proofs.Places.{through-more, through-least, take-four}
 use Rattle.policy.proofs.Eight.{binds-length}
-use Rattle.policy.proofs.fields.bound.Statement.{statement}
-use Rattle.policy.proofs.fields.bound.Tie as tie
+use Rattle.policy.proofs.vars.bound.Statement.{statement}
+use Rattle.policy.proofs.vars.bound.Tie as tie
 
 abbrev Inv-loop : tie.InvT-loop
 Inv-loop fields values n v₀ i₀ v i = (i ≤ n) × (n ≤ 4) × (length v ≡ 8) × (v ≡ through binds (take i fields) (take i values) v₀)
