@@ -5,6 +5,7 @@ ghost use Prim.Native.Nat.{ℕ, _+_, _*_, _-_, _/_, _≤_, _<_};
 ghost use lib.Dec.{eqb};
 ghost use lib.ListN.{length, getD, take, drop};
 ghost use Rattle.words.specs.Lists.{firstBad, every, allOf};
+ghost use Rattle.net.specs.Records.{actionWidth};
 ghost use Rattle.net.specs.Image.{sitesIn, actionsIn};
 ghost use Rattle.format.specs.Format.{placed, stateOk};
 ghost use Rattle.format.specs.Steps.{inSet, boundBy};
@@ -18,7 +19,7 @@ use words::count_below;
 
 // The variables that n actions bind, from action `from` on.
 fn bound_by(actions: &[u8], from: usize, n: usize) -> u8
-    requires { ⌜ 24 * (from + n) ≤ length (now actions) ⌝ }
+    requires { ⌜ actionWidth * (from + n) ≤ length (now actions) ⌝ }
     ensures { λ r. ⌜ r ≡ boundBy (take n (drop from (actionsIn (now (actions .entry))))) ⌝ }
 {
     let mut bound = 0;
@@ -42,12 +43,13 @@ fn set_right(vars: [u16; 8], bound: u8) -> bool
                 & (((vars[3] != 0) == (bound / 8 % 2 == 1))
                     & (((vars[4] != 0) == (bound / 16 % 2 == 1))
                         & (((vars[5] != 0) == (bound / 32 % 2 == 1))
-                            & (((vars[6] != 0) == (bound / 64 % 2 == 1)) & ((vars[7] != 0) == (bound / 128 % 2 == 1))))))))
+                            & (((vars[6] != 0) == (bound / 64 % 2 == 1))
+                                & ((vars[7] != 0) == (bound / 128 % 2 == 1))))))))
 }
 
 // Whether the state of a site is good whose program is the actions from..to.
 fn state_ok(actions: &[u8], from: usize, to: usize, x: Site) -> bool
-    requires { ⌜ (from ≤ to) × (24 * to ≤ length (now actions)) ⌝ }
+    requires { ⌜ (from ≤ to) × (actionWidth * to ≤ length (now actions)) ⌝ }
     ensures { λ r. ⌜ r ≡ allOf (placed (take (to - from) (drop from (actionsIn (now (actions .entry))))) (x .position) (x .vars)) ⌝ }
 {
     let position = x.position as usize;
@@ -57,7 +59,7 @@ fn state_ok(actions: &[u8], from: usize, to: usize, x: Site) -> bool
 
 // The number of the first site whose state is bad, or how many sites there are. The actions are in the order of their owners.
 pub fn first_bad_state(sites: &[u8], actions: &[u8]) -> usize
-    requires { ⌜ ((i j : ℕ) → i ≤ j → j < length (now actions) / 24 → getD (now actions) (24 * i) 0 ≤ getD (now actions) (24 * j) 0) ⌝ }
+    requires { ⌜ ((i j : ℕ) → i ≤ j → j < length (now actions) / actionWidth → getD (now actions) (actionWidth * i) 0 ≤ getD (now actions) (actionWidth * j) 0) ⌝ }
     ensures { λ r. ⌜ (r ≡ firstBad (stateOk (actionsIn (now (actions .entry))) (sitesIn (now (sites .entry)))) (length (sitesIn (now (sites .entry))))) × (r ≤ length (sitesIn (now (sites .entry)))) ⌝ }
 {
     let n = sites.len() / SITE_WIDTH;
