@@ -1,0 +1,11 @@
+pub mod Bodies
+pub mod Owned
+pub mod Tested
+pub mod Four
+pub mod Places
+pub mod Eight
+pub mod Mandatory
+pub mod Sorts
+pub mod Values
+pub mod Given
+pub mod More

@@ -7,12 +7,15 @@ use lib.ListN.{length, getD, take, set, replicate}
 use Rattle.level.specs.Level.{dominates}
 use Rattle.belnap.specs.Belnap.{grants, notOf, gatherOf, operateOf}
 use Rattle.words.specs.Lists.{fill, some, fitAll}
-use Rattle.net.specs.Net.{State, Rules, siteAt, nodeAt, names, placeOf, isAt, isName, isVariable, isBinding, isAny, isBinder, fieldsOf, valuesOf, cutOf, house}
+use Rattle.net.specs.Net.{Rules, siteAt, nodeAt, names, placeOf, isAt, isName, isVariable, isBinding, isAny, isBinder, fieldsOf, valuesOf, cutOf, house}
 use Rattle.net.specs.declared.Operand.{Operand}
 use Rattle.net.specs.declared.Site.{Site}
 use Rattle.net.specs.declared.Node.{Node}
 use Rattle.net.specs.declared.Aspect.{Aspect}
 use Rattle.net.specs.declared.Action.{Action}
+use Rattle.net.specs.declared.Row.{Row}
+use Rattle.policy.specs.Match.{through}
+use Rattle.policy.specs.declared.rules.Rule.{Rule}
 
 abbrev pub name : ℕ → Operand
 name v = record { tag = 0; value = v }
@@ -23,20 +26,21 @@ pub record Act : Type 0 where
   pub target : ℕ
   pub action : Action
 
+abbrev pub actOf : ℕ → ℕ → Action → Act
+actOf s t x = record { source = s; target = t; action = x }
+
 -- ---- terms: "0 S, 1 C, 2 O, 3 HS of the source; 4 O, 5 HO, 6 S, 7 C of the target"
 abbrev pub termsOf : Site → Site → List ℕ
 termsOf x y = x .s ∷ x .c ∷ x .o ∷ x .hs ∷ y .o ∷ y .ho ∷ y .s ∷ y .c ∷ []
 
--- ---- the mandatory rules: eight rows of capability, left term, right term, "each giving 2 where the left does not dominate the right, else 0"
-pub record Mandatory : Type 0 where
-  pub for : ℕ
-  pub left : ℕ
-  pub right : ℕ
+abbrev pub termsIn : List Site → Act → List ℕ
+termsIn sites act = termsOf (siteAt sites (act .source)) (siteAt sites (act .target))
 
-abbrev pub demands : ℕ → ℕ → ℕ → Mandatory
-demands f l r = record { for = f; left = l; right = r }
+-- ---- the mandatory rules: rows of capability, left term, right term, "each giving 2 where the left does not dominate the right, else 0"
+abbrev pub demands : ℕ → ℕ → ℕ → Rule
+demands c l r = record { capability = c; left = l; right = r }
 
-abbrev pub mandatoryRules : List Mandatory
+abbrev pub mandatoryRules : List Rule
 mandatoryRules =
     demands 1 4 1
     ∷ demands 1 4 3
@@ -48,9 +52,9 @@ mandatoryRules =
     ∷ demands 3 0 5
     ∷ []
 
-abbrev pub ruleGives : ℕ → List ℕ → Mandatory → ℕ
-ruleGives capability terms m =
-    cond (eqb (m .for) capability) (cond (dominates (getD terms (m .left) 0) (getD terms (m .right) 0)) 0 2) 0
+abbrev pub ruleGives : ℕ → List ℕ → Rule → ℕ
+ruleGives capability terms x =
+    cond (eqb (x .capability) capability) (cond (dominates (getD terms (x .left) 0) (getD terms (x .right) 0)) 0 2) 0
 
 -- values gathered, none giving 0
 abbrev pub gatherAll : List ℕ → ℕ
@@ -62,7 +66,7 @@ mandatory capability terms = gatherAll (map (ruleGives capability terms) mandato
 
 -- ---- cuts: "a name fits that name; a variable fits any value and takes it; "any" fits all; "binder" fits only a binding field.
 -- Name and variable don't fit a binding field." The part of an action is a name or binds.
-abbrev pub patternFits : Operand → Operand → Bool
+unfoldable pub patternFits : Operand → Operand → Bool
 patternFits p x =
     cond (isName p) (isName x && eqb (p .value) (x .value))
     (cond (isVariable p) (isName x)
@@ -70,30 +74,32 @@ patternFits p x =
     (isBinder p && isBinding x)))
 
 -- the action's parts as a cut sees them
-abbrev pub facing : State → Act → List Operand
-facing s act = name (siteAt (s .sites) (act .source) .name) ∷ name (siteAt (s .sites) (act .target) .name) ∷ fieldsOf (act .action)
+abbrev pub facing : List Site → Act → List Operand
+facing sites act = name (siteAt sites (act .source) .name) ∷ name (siteAt sites (act .target) .name) ∷ fieldsOf (act .action)
 
 -- "It traps an action of the same capability and field count whose parts all fit"
-unfoldable pub traps : State → Act → Aspect → Bool
-traps s act x =
+unfoldable pub traps : List Site → Act → Aspect → Bool
+traps sites act x =
     eqb (x .capability) (act .action .capability)
     && (eqb (x .count) (act .action .count)
-    && fitAll patternFits (cutOf x) (facing s act))
+    && fitAll patternFits (cutOf x) (facing sites act))
 
 -- what the cut's variables take; the others are unset
-abbrev pub taking : List Operand → List Operand → List ℕ → List ℕ
-taking [] l vars = vars
-taking (p ∷ ps) [] vars = vars
-taking (p ∷ ps) (x ∷ l) vars = taking ps l (cond (isVariable p) (set vars (p .value) (x .value)) vars)
+unfoldable pub takes : Operand → Operand → List ℕ → List ℕ
+takes p x vars = cond (isVariable p) (set vars (p .value) (x .value)) vars
 
-abbrev pub taken : State → Act → Aspect → List ℕ
-taken s act x = taking (cutOf x) (facing s act) (replicate 8 0)
+unfoldable pub taken : List Site → Act → Aspect → List ℕ
+taken sites act x = through takes (cutOf x) (facing sites act) (replicate 8 0)
 
 -- ---- nodes: all that a node's value depends on but the node and the lower values
 pub record Ask : Type 0 where
-  pub state : State
+  pub sites : List Site
+  pub rows : List Row
   pub terms : List ℕ
   pub vars : List ℕ
+
+abbrev pub ask : List Site → List Row → List ℕ → List ℕ → Ask
+ask sites rows terms vars = record { sites = sites; rows = rows; terms = terms; vars = vars }
 
 -- an operand's value, 0 where its variable is unset
 abbrev pub meant : List ℕ → Operand → ℕ
@@ -103,13 +109,17 @@ meant vars x = cond (isVariable x) (getD vars (x .value) 0) (x .value)
 abbrev pub known : ℕ → ℕ → Bool
 known v w = not (eqb v 0) && eqb v w
 
--- "some row at the named place has this count and fits names, variables and any"
-unfoldable pub testOf : Ask → Node → Bool
-testOf q x =
-    some (λ r.
-    isAt (r .owner) (placeOf (names (q .state .sites)) (x .a))
-    && (eqb (r .count) (x .count)
-    && fitAll (λ p v. isAny p || known (meant (q .vars) p) v) (take (x .count) (x .fields)) (valuesOf r))) (q .state .rows)
+-- an operand of a test "fits names, variables and any"
+unfoldable pub asks : List ℕ → Operand → ℕ → Bool
+asks vars p v = isAny p || known (meant vars p) v
+
+-- a row that a test looks for: it "has this count and fits"
+unfoldable pub wanted : List ℕ → Node → Row → Bool
+wanted vars x r = eqb (r .count) (x .count) && fitAll (asks vars) (take (x .count) (x .fields)) (valuesOf r)
+
+-- "some row at the named place" is one
+unfoldable pub testOf : List Site → List Row → List ℕ → Node → Bool
+testOf sites rows vars x = some (λ r. isAt (r .owner) (placeOf (names sites) (x .a)) && wanted vars x r) rows
 
 -- A value tells its sort: a condition's is 0 or 1, a recommendation's is 4 more than its code. Of a value of the other sort, and of none,
 -- `yes` is false and `advice` is 0: an accepted table has no such child.
@@ -127,7 +137,7 @@ conditionOf q x row =
     (cond (eqb (x .kind) 3) (yes (getD row (x .a) 0) && yes (getD row (x .b) 0))
     (cond (eqb (x .kind) 4) (yes (getD row (x .a) 0) || yes (getD row (x .b) 0))
     (cond (eqb (x .kind) 5) (known (meant (q .vars) (getD (x .fields) 0 (name 0))) (meant (q .vars) (getD (x .fields) 1 (name 0))))
-    (cond (eqb (x .kind) 6) (testOf q x)
+    (cond (eqb (x .kind) 6) (testOf (q .sites) (q .rows) (q .vars) x)
     (cond (eqb (x .kind) 7) (dominates (getD (q .terms) (x .a) 0) (getD (q .terms) (x .b) 0))
     (cond (eqb (x .kind) 8) (grants (advice (getD row (x .a) 0)))
     false)))))))
@@ -150,22 +160,25 @@ rowOf q nodes = fill (λ k row. valueOf q (nodeAt nodes k) row)
 abbrev pub valueAt : Ask → List Node → ℕ → ℕ
 valueAt q nodes k = getD (rowOf q nodes (length nodes)) k 0
 
--- ---- policies
-abbrev pub askOf : State → Act → Aspect → Ask
-askOf s act x =
-    record { state = s; terms = termsOf (siteAt (s .sites) (act .source)) (siteAt (s .sites) (act .target)); vars = taken s act x }
+-- ---- policies: what the rules of the house say of an action, by the sites and the rows as they are
+abbrev pub askOf : List Site → List Row → Act → Aspect → Ask
+askOf sites rows act x = ask sites rows (termsIn sites act) (taken sites act x)
 
 -- "Trapped with its condition true it gives its recommendation, else 0."
-unfoldable pub gives : List Node → State → Act → Aspect → ℕ
-gives nodes s act x =
-    cond (traps s act x && yes (valueAt (askOf s act x) nodes (x .condition))) (advice (valueAt (askOf s act x) nodes (x .recommendation))) 0
+unfoldable pub gives : List Node → List Site → List Row → Act → Aspect → ℕ
+gives nodes sites rows act x =
+    let q = askOf sites rows act x in
+    cond (traps sites act x && yes (valueAt q nodes (x .condition))) (advice (valueAt q nodes (x .recommendation))) 0
 
 -- "A site's policy gathers its aspects; none gives 0."
-unfoldable pub policy : List Node → State → Act → ℕ → List Aspect → ℕ
-policy nodes s act site l = gatherAll (map (gives nodes s act) (house site l))
+unfoldable pub policy : List Node → List Site → List Row → Act → ℕ → List Aspect → ℕ
+policy nodes sites rows act site l = gatherAll (map (gives nodes sites rows act) (house site l))
+
+abbrev pub rulesOf : List Node → List Aspect → Rules
+rulesOf nodes aspects = record { nodes = nodes; aspects = aspects }
 
 -- "Gather the mandatory rules, the source's policy and the target's."
-unfoldable pub judge : Rules → State → Act → ℕ
-judge r s act =
-    gatherOf (mandatory (act .action .capability) (termsOf (siteAt (s .sites) (act .source)) (siteAt (s .sites) (act .target))))
-    (gatherOf (policy (r .nodes) s act (act .source) (r .aspects)) (policy (r .nodes) s act (act .target) (r .aspects)))
+unfoldable pub judge : Rules → List Site → List Row → Act → ℕ
+judge r sites rows act =
+    gatherOf (mandatory (act .action .capability) (termsIn sites act))
+    (gatherOf (policy (r .nodes) sites rows act (act .source) (r .aspects)) (policy (r .nodes) sites rows act (act .target) (r .aspects)))

@@ -105,3 +105,9 @@ pub first-is : (ok : ℕ → Bool) (n k : ℕ) → k ≤ n → ((j : ℕ) → j 
 first-is ok n k h below at =
     let e = eqb→eq (firstBad ok k) k (every-of ok k below) in
     ⊎-elim (λ q. ap (firstBad ok) (sym q) ∙ e ∙ refl) (λ l. first-stops ok k n e (at l) l) (eq-or-lt-of-le h)
+
+-- two tests that agree below n have one first
+pub first-same : (f g : ℕ → Bool) (n : ℕ) → ((k : ℕ) → k < n → f k ≡ g k) → firstBad f n ≡ firstBad g n
+unfolding firstBad
+first-same f g zero e = refl
+first-same f g (suc n) e = rw (first-same f g n (λ k h. e k (omega arith)), e n (le-refl (suc n)))

@@ -4,7 +4,7 @@ use mathlib.Core.Path.{_≡_, refl, sym, ap, _∙_}
 use mathlib.Core.Bool.{Bool, true, false, cond}
 use mathlib.Core.List.{List, [], _∷_, _++_, append-nil}
 use mathlib.Core.Logic.{⊎-elim}
-use Prim.Native.Nat.{ℕ, zero, suc, _+_, _-_, _≤_, _<_}
+use Prim.Native.Nat.{ℕ, zero, suc, _+_, _-_, _*_, _/_, _≤_, _<_}
 use native.Mathlib.Nat.{le-refl, le-of-suc-le-suc, not-suc-le-zero, eq-or-lt-of-le}
 use native.Mathlib.Decide.{le-ind}
 use native.Mathlib.Omega.{arith}
@@ -13,7 +13,9 @@ use lib.ListN.{length, getD, take, drop, length-drop, take-append-drop}
 use lib.Seq.{getD-take, getD-drop, length-take-le, drop-drop}
 use borrow.Author.Tests.{ltb-true, ltb-false, eq-eqb, ne-eqb}
 use Rattle.words.specs.Lists.{firstBad, count, those}
-use Rattle.words.proofs.First.{first-le, first-below, first-at}
+use Rattle.words.specs.Tables.{tableOf, Ordered, countBelow}
+use Rattle.words.proofs.First.{first-le, first-below, first-at, first-same}
+use Rattle.words.proofs.Tables.{table-length, table-at}
 
 module _ {A : Type 0} (p : A → Bool) where
   pub those-append : (a b : List A) → those p (a ++ b) ≡ those p a ++ those p b
@@ -64,15 +66,21 @@ module _ {A : Type 0} (f : A → ℕ) (d : A) where
     abbrev high : ℕ
     high = below l (suc t)
 
-    smaller : (k : ℕ) → k < low → f (getD l k d) < t
+    pub smaller : (k : ℕ) → k < low → f (getD l k d) < t
     smaller k h = ltb-true (f (getD l k d)) t (first-below (λ j. ltb (f (getD l j d)) t) (length l) k h)
 
     -- from `low` on the keys are not smaller; from `high` on they are larger
-    larger : (u k : ℕ) → below l u ≤ k → k < length l → u ≤ f (getD l k d)
+    pub larger : (u k : ℕ) → below l u ≤ k → k < length l → u ≤ f (getD l k d)
     larger u k h b =
         let m = below l u in
         let e = ltb-false (f (getD l m d)) u (first-at (λ j. ltb (f (getD l j d)) u) (length l) (omega arith)) in
         omega (arith, order m k h b)
+
+    -- between the two places the key is t
+    pub between : (k : ℕ) → low ≤ k → k < high → f (getD l k d) ≡ t
+    between k h b =
+        let n = first-le (λ j. ltb (f (getD l j d)) (suc t)) (length l) in
+        omega (arith, larger t k h (omega arith), ltb-true (f (getD l k d)) (suc t) (first-below (λ j. ltb (f (getD l j d)) (suc t)) (length l) k b))
 
     pub low-high : low ≤ high
     low-high = pick (ltb high low) refl
@@ -104,8 +112,7 @@ module _ {A : Type 0} (f : A → ℕ) (d : A) where
         those-all q (take n m) d (λ k h.
         let k₁ : k < n = omega (arith, length-take-le n m (omega arith)) in
         rw (getD-take n m k d k₁, getD-drop low l k d)
-        (eq-eqb (f (getD l (low + k) d)) t
-        (omega (arith, larger t (low + k) (omega arith) (omega arith), ltb-true (f (getD l (low + k) d)) (suc t) (first-below (λ j. ltb (f (getD l j d)) (suc t)) (length l) (low + k) (omega arith)))))) in
+        (eq-eqb (f (getD l (low + k) d)) t (between (low + k) (omega arith) (omega arith)))) in
         let back : those q (drop n m) ≡ [] =
         those-none q (drop n m) d (λ k h.
         let k₁ : low + (n + k) < length l = omega (arith, length-drop n m) in
@@ -120,3 +127,21 @@ module _ {A : Type 0} (f : A → ℕ) (d : A) where
         count-those (λ x. eqb (f x) t) l
         ∙ ap length group
         ∙ length-take-le (high - low) (drop low l) (let o = low-high in let b = high-length in omega (arith, length-drop low l))
+
+-- ---- a table whose records begin with their key: the search by halving is over its bytes
+module _ {A : Type 0} (f : A → ℕ) (d : A) (read : List ℕ → ℕ → A) (front : (s : List ℕ) (i : ℕ) → f (read s i) ≡ getD s i 0) (w : ℕ) (s : List ℕ) where
+  key-at : (k : ℕ) → k < length s / w → f (getD (tableOf read w s) k d) ≡ getD s (w * k) 0
+  key-at k h = ap f (table-at read w s k d h) ∙ front s (w * k)
+
+  pub table-below : (t : ℕ) → countBelow s w (length s / w) t ≡ below f d (tableOf read w s) t
+  table-below t =
+      first-same (λ k. ltb (getD s (w * k) 0) t) (λ k. ltb (f (getD (tableOf read w s) k d)) t) (length s / w) (λ k h. ap (λ (v : ℕ). ltb v t) (sym (key-at k h)))
+      ∙ ap (firstBad (λ k. ltb (f (getD (tableOf read w s) k d)) t)) (sym (table-length read w s))
+
+  pub table-sorted : Ordered w s → Sorted f d (tableOf read w s)
+  table-sorted g i j h b =
+      let c : j < length s / w = rw (table-length read w s) at b in
+      rw (key-at i (omega arith), key-at j c) (g i j h c)
+
+  pub bytes-sorted : Sorted f d (tableOf read w s) → Ordered w s
+  bytes-sorted g i j h c = rw (← key-at i (omega arith), ← key-at j c) (g i j h (rw (table-length read w s) c))

@@ -1,5 +1,5 @@
 -- Tables of records of one width: a record is read at its place in the bytes, and written as bytes. Assumes nothing.
-use Prim.Native.Nat.{ℕ, zero, suc, _*_, _/_}
+use Prim.Native.Nat.{ℕ, zero, suc, _*_, _/_, _≤_, _<_}
 use mathlib.Core.Bool.{Bool}
 use mathlib.Core.List.{List, [], _∷_, _++_}
 use lib.Dec.{ltb}
@@ -20,6 +20,10 @@ module _ {A : Type 0} where
   unfoldable pub encodeAll : (A → List ℕ) → List A → List ℕ
   encodeAll enc [] = []
   encodeAll enc (x ∷ xs) = enc x ++ encodeAll enc xs
+
+-- the first bytes of the records of width w never fall
+abbrev pub Ordered : ℕ → List ℕ → Type 0
+Ordered w s = (i j : ℕ) → i ≤ j → j < length s / w → getD s (w * i) 0 ≤ getD s (w * j) 0
 
 -- how many of the first n records of width w begin with a byte below `bound`, where these bytes never fall: the number of the first that does not
 abbrev pub countBelow : List ℕ → ℕ → ℕ → ℕ → ℕ

@@ -1,0 +1,9 @@
+pub mod Stretches
+pub mod Holding
+pub mod Writes
+pub mod Readiness
+pub mod Acting
+pub mod Asking
+pub mod Doing
+pub mod Running
+pub mod Calls

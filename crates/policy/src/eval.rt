@@ -1,0 +1,129 @@
+// The two evaluators of the rules of the house: `holds` of conditions, `advises` of recommendations. They call each other on lower node
+// numbers. Each reads a node's kind where it stands in the table, and then only the fields that this kind has. A node that is not below
+// its parent, and one of the other sort, is false or 0: no accepted table has one.
+ghost use mathlib.Core.Path.{_≡_};
+ghost use mathlib.Core.Bool.{_&&_};
+ghost use Prim.Native.Nat.{_+_, _*_, _^_, _≤_, _<_};
+ghost use lib.ListN.{length, getD};
+ghost use Rattle.level.specs.Level.{dominates};
+ghost use Rattle.words.specs.Bytes.{u16At};
+ghost use Rattle.net.specs.Records.{fourOperands};
+ghost use Rattle.net.specs.Image.{sitesIn, nodesIn, rowsIn};
+ghost use Rattle.policy.specs.Owners.{Ordered};
+ghost use Rattle.policy.specs.House.{name, meant, known, ask, yes, advice, rowOf};
+use crate::rows::test;
+use crate::vars::element;
+use crate::vars::known;
+use crate::vars::meant;
+use level::Level;
+use net::operand_at;
+use words::size_at;
+use words::word;
+
+// The "equal" node at byte `node`: both operands known, and the same.
+fn equal(nodes: &[u8], node: usize, vars: &[u16; 8]) -> bool
+    requires { ⌜ (node + 24 ≤ length (now nodes)) × (length (now vars) ≡ 8) ⌝ }
+    ensures { λ r. ⌜ r ≡ known (meant (now (vars .entry)) (getD (fourOperands (now (nodes .entry)) (node + 8)) 0 (name 0))) (meant (now (vars .entry)) (getD (fourOperands (now (nodes .entry)) (node + 8)) 1 (name 0))) ⌝ }
+{
+    known(
+        meant(operand_at(nodes, node + 8), vars),
+        meant(operand_at(nodes, node + 12), vars),
+    )
+}
+
+// The "dominates" node at byte `node`: of its two terms.
+fn outranks(nodes: &[u8], node: usize, terms: &[u16; 8]) -> bool
+    requires { ⌜ (node + 24 ≤ length (now nodes)) × (length (now terms) ≡ 8) ⌝ }
+    ensures { λ r. ⌜ r ≡ dominates (getD (now (terms .entry)) (u16At (now (nodes .entry)) (node + 2)) 0) (getD (now (terms .entry)) (u16At (now (nodes .entry)) (node + 4)) 0) ⌝ }
+{
+    let x = Level {
+        code: element(terms, word(nodes, node + 2)),
+    };
+    x.dominates(Level {
+        code: element(terms, word(nodes, node + 4)),
+    })
+}
+
+// Whether the condition n, below top, holds.
+pub fn holds(
+    n: usize,
+    top: usize,
+    nodes: &&[u8],
+    sites: &&[u8],
+    rows: &&[u8],
+    terms: &[u16; 8],
+    vars: &[u16; 8],
+) -> bool
+    requires { ⌜ (24 * top ≤ length (now (now nodes))) × (24 * top < 2 ^ 64) × (length (now terms) ≡ 8) × (length (now vars) ≡ 8) × Ordered 10 (now (now rows)) ⌝ }
+    ensures { λ r. ⌜ r ≡ yes (getD (rowOf (ask (sitesIn (now (now (sites .entry)))) (rowsIn (now (now (rows .entry)))) (now (terms .entry)) (now (vars .entry))) (nodesIn (now (now (nodes .entry)))) top) n 0) ⌝ }
+{
+    if top <= n {
+        return false;
+    }
+    let at = 24 * n;
+    let table = *nodes;
+    let kind = table[at];
+    match kind {
+        1 => true,
+        2 => !holds(size_at(table, at + 2), n, nodes, sites, rows, terms, vars),
+        3 => {
+            if !holds(size_at(table, at + 2), n, nodes, sites, rows, terms, vars) {
+                return false;
+            }
+            holds(size_at(table, at + 4), n, nodes, sites, rows, terms, vars)
+        }
+        4 => {
+            if holds(size_at(table, at + 2), n, nodes, sites, rows, terms, vars) {
+                return true;
+            }
+            holds(size_at(table, at + 4), n, nodes, sites, rows, terms, vars)
+        }
+        5 => equal(table, at, vars),
+        6 => test(table, at, *sites, *rows, vars),
+        7 => outranks(table, at, terms),
+        8 => belnap::grants(advises(size_at(table, at + 2), n, nodes, sites, rows, terms, vars)),
+        _ => false,
+    }
+}
+
+// What the recommendation n, below top, advises.
+pub fn advises(
+    n: usize,
+    top: usize,
+    nodes: &&[u8],
+    sites: &&[u8],
+    rows: &&[u8],
+    terms: &[u16; 8],
+    vars: &[u16; 8],
+) -> u8
+    requires { ⌜ (24 * top ≤ length (now (now nodes))) × (24 * top < 2 ^ 64) × (length (now terms) ≡ 8) × (length (now vars) ≡ 8) × Ordered 10 (now (now rows)) ⌝ }
+    ensures { λ r. ⌜ r ≡ advice (getD (rowOf (ask (sitesIn (now (now (sites .entry)))) (rowsIn (now (now (rows .entry)))) (now (terms .entry)) (now (vars .entry))) (nodesIn (now (now (nodes .entry)))) top) n 0) ⌝ }
+{
+    if top <= n {
+        return 0;
+    }
+    let at = 24 * n;
+    let table = *nodes;
+    let kind = table[at];
+    match kind {
+        16 => (word(table, at + 2) % 4) as u8,
+        17 => {
+            if holds(size_at(table, at + 2), n, nodes, sites, rows, terms, vars) {
+                return 1;
+            }
+            2
+        }
+        18 => belnap::not(advises(size_at(table, at + 2), n, nodes, sites, rows, terms, vars)),
+        _ => {
+            if kind < 19 {
+                return 0;
+            }
+            if 24 < kind {
+                return 0;
+            }
+            let p = advises(size_at(table, at + 2), n, nodes, sites, rows, terms, vars);
+            let q = advises(size_at(table, at + 4), n, nodes, sites, rows, terms, vars);
+            belnap::operate(kind - 19, p, q)
+        }
+    }
+}

@@ -1,0 +1,4 @@
+pub mod Programs
+pub mod StepLaws
+pub mod Keeps
+pub mod Stores
