@@ -1,10 +1,11 @@
 // The state of each site: its position lies in its program, and a variable is set exactly when an action before the position binds it.
 ghost use mathlib.Core.Path.{_≡_};
 ghost use mathlib.Core.Bool.{not, Bool·beq};
-ghost use Prim.Native.Nat.{ℕ, _+_, _*_, _-_, _/_, _≤_, _<_};
+ghost use Prim.Native.Nat.{_+_, _*_, _-_, _≤_};
 ghost use lib.Dec.{eqb};
 ghost use lib.ListN.{length, getD, take, drop};
 ghost use Rattle.words.specs.Lists.{firstBad, every, allOf};
+ghost use Rattle.words.specs.Tables.{Ordered};
 ghost use Rattle.net.specs.Records.{actionWidth};
 ghost use Rattle.net.specs.Image.{sitesIn, actionsIn};
 ghost use Rattle.format.specs.Format.{placed, stateOk};
@@ -59,7 +60,7 @@ fn state_ok(actions: &[u8], from: usize, to: usize, x: Site) -> bool
 
 // The number of the first site whose state is bad, or how many sites there are. The actions are in the order of their owners.
 pub fn first_bad_state(sites: &[u8], actions: &[u8]) -> usize
-    requires { ⌜ ((i j : ℕ) → i ≤ j → j < length (now actions) / actionWidth → getD (now actions) (actionWidth * i) 0 ≤ getD (now actions) (actionWidth * j) 0) ⌝ }
+    requires { ⌜ Ordered actionWidth (now actions) ⌝ }
     ensures { λ r. ⌜ (r ≡ firstBad (stateOk (actionsIn (now (actions .entry))) (sitesIn (now (sites .entry)))) (length (sitesIn (now (sites .entry))))) × (r ≤ length (sitesIn (now (sites .entry)))) ⌝ }
 {
     let n = sites.len() / SITE_WIDTH;
