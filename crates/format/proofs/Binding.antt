@@ -1,20 +1,19 @@
 -- The variables of the parts of an action, as sets: a set has what some part speaks of, no variable is there twice exactly if the bits of the
 -- parts are apart, and four fields are looked at one by one. Assumes nothing.
 use mathlib.Core.Path.{_≡_, refl, sym, ap, _∙_}
-use mathlib.Core.Bool.{Bool, true, false, cond, not, _&&_, _||_, and-true, or-false}
+use mathlib.Core.Bool.{Bool, true, false, cond, not, _&&_, _||_, and-true}
 use mathlib.Core.List.{List, [], _∷_}
 use Prim.Native.Nat.{ℕ, zero, suc, _+_, _^_, _≤_, _<_}
 use native.Mathlib.Nat.{zero-add}
 use native.Mathlib.Omega.{arith}
-use lib.Bits.{bitAnd, bitOr, or-lt, and-lt, or-zero-r, and-zero-l, and-zero-r}
+use lib.Bits.{bitAnd, bitOr, or-lt, and-lt, or-zero-r, and-zero-r}
 use lib.Dec.{T, ltb, leb, eqb, leb→le, le→leb, eqb→eq}
 use lib.ListN.{length, getD, take}
 use lib.Pow.{pow-lt}
 use lib.Seq.{take-nil}
 use borrow.Author.Tests.{eqb-true, eqb-false, ne-eqb, eq-eqb, ltb-true, ltb-false, lt-ltb}
-use Rattle.words.specs.Lists.{every, some, count}
-use Rattle.words.proofs.First.{every-at, every-of}
-use Rattle.words.proofs.Truth.{both-T, T-both, is-T, T-is, same-truth, both-left, both-right}
+use Rattle.words.specs.Lists.{some, count}
+use Rattle.words.proofs.Truth.{both-T, T-both, is-T, both-right}
 use Rattle.words.proofs.Numbers.{written}
 use Rattle.net.specs.Records.{noOperand}
 use Rattle.net.specs.declared.Operand.{Operand}

@@ -1,9 +1,9 @@
 -- Sets as numbers, a bit for each element: what is in a union and in a common part, and that sets with the same elements are one. Each is
 -- shown of the lowest bit, and the others are bits of the half. Assumes nothing.
 use mathlib.Core.Path.{_≡_, refl, sym, ap, _∙_}
-use mathlib.Core.Bool.{Bool, true, false, cond, not, _&&_, _||_}
-use Prim.Native.Nat.{ℕ, zero, suc, _+_, _*_, _/_, _%_, _^_, _≤_, _<_, max, min}
-use native.Mathlib.Nat.{pow-suc, pow-zero, pow-succ', div-div-eq-div-mul, div-one, zero-div}
+use mathlib.Core.Bool.{Bool, true, false, _&&_, _||_}
+use Prim.Native.Nat.{ℕ, zero, suc, _*_, _/_, _%_, _^_, _<_, max, min}
+use native.Mathlib.Nat.{pow-suc, pow-succ', div-div-eq-div-mul, zero-div}
 use native.Mathlib.Omega.{arith}
 use lib.Dec.{eqb}
 use lib.Bits.{bitAnd, bitOr, and-step, or-step, and-shr, or-shr}

@@ -5,9 +5,10 @@ use Prim.Native.Nat.{ℕ}
 use lib.Dec.{T}
 use lib.ListN.{length}
 use Rattle.words.specs.Lists.{every}
+use Rattle.words.specs.Tables.{Ordered}
 use Rattle.words.proofs.Truth.{is-T, part}
 use Rattle.words.proofs.First.{every-at}
-use Rattle.words.proofs.Groups.{Sorted}
+use Rattle.words.proofs.Groups.{Sorted, bytes-sorted}
 use Rattle.net.specs.Records.{aspectWidth, actionWidth, rowWidth, noAspect, noAction, noRow, readAspect, readAction, readRow}
 use Rattle.net.specs.Net.{aspectAt, actionAt, rowAt}
 use Rattle.net.specs.Image.{bodyIn, aspectsIn, actionsIn, rowsIn}
@@ -19,7 +20,7 @@ use Rattle.rulebook.specs.Rulebook.{aspectRules, aspectOk}
 use Rattle.format.specs.Format.{actionRules, actionOk, rowRules, rowOk}
 use Rattle.format.specs.Verdict.{verdictOf}
 use Rattle.format.specs.declared.Verdict.the-variants.{Accepted}
-use Rattle.format.proofs.Order.{InOrder, sorted-owners, order-bytes}
+use Rattle.format.proofs.Order.{sorted-owners}
 use Rattle.format.proofs.Verdicts.{accepted-right}
 
 -- ---- of lists
@@ -43,25 +44,25 @@ module _ (sites : ℕ) where
       (λ k h. part (rowRules sites l k (rowAt l k)) (is-T _ (every-at (rowOk sites l) (length l) t k h)) 0)
 
 -- ---- of bytes
-pub aspects-in-order : (s : List ℕ) → Sorted (λ x. x .owner) noAspect (aspectsIn s) → InOrder aspectWidth s
+pub aspects-ordered : (s : List ℕ) → Sorted (λ x. x .owner) noAspect (aspectsIn s) → Ordered aspectWidth s
 unfolding readAspect
-aspects-in-order s = order-bytes (λ x. x .owner) noAspect refl readAspect aspectWidth s (λ i. refl)
+aspects-ordered = bytes-sorted (λ x. x .owner) noAspect readAspect (λ s i. refl) aspectWidth
 
-pub actions-in-order : (s : List ℕ) → Sorted (λ x. x .owner) noAction (actionsIn s) → InOrder actionWidth s
+pub actions-ordered : (s : List ℕ) → Sorted (λ x. x .owner) noAction (actionsIn s) → Ordered actionWidth s
 unfolding readAction
-actions-in-order s = order-bytes (λ x. x .owner) noAction refl readAction actionWidth s (λ i. refl)
+actions-ordered = bytes-sorted (λ x. x .owner) noAction readAction (λ s i. refl) actionWidth
 
-pub rows-in-order : (s : List ℕ) → Sorted (λ x. x .owner) noRow (rowsIn s) → InOrder rowWidth s
+pub rows-ordered : (s : List ℕ) → Sorted (λ x. x .owner) noRow (rowsIn s) → Ordered rowWidth s
 unfolding readRow
-rows-in-order s = order-bytes (λ x. x .owner) noRow refl readRow rowWidth s (λ i. refl)
+rows-ordered = bytes-sorted (λ x. x .owner) noRow readRow (λ s i. refl) rowWidth
 
 -- ---- of an accepted image
 module _ (b : List ℕ) (e : verdictOf b ≡ Accepted) where
-  pub accepted-aspects : InOrder aspectWidth (bodyIn b 3)
-  accepted-aspects = aspects-in-order (bodyIn b 3) (aspects-sorted _ _ _ (accepted-right b e .records .aspects))
+  pub accepted-aspects : Ordered aspectWidth (bodyIn b 3)
+  accepted-aspects = aspects-ordered (bodyIn b 3) (aspects-sorted _ _ _ (accepted-right b e .records .aspects))
 
-  pub accepted-actions : InOrder actionWidth (bodyIn b 4)
-  accepted-actions = actions-in-order (bodyIn b 4) (actions-sorted _ _ (accepted-right b e .records .actions))
+  pub accepted-actions : Ordered actionWidth (bodyIn b 4)
+  accepted-actions = actions-ordered (bodyIn b 4) (actions-sorted _ _ (accepted-right b e .records .actions))
 
-  pub accepted-rows : InOrder rowWidth (bodyIn b 5)
-  accepted-rows = rows-in-order (bodyIn b 5) (rows-sorted _ _ (accepted-right b e .records .rows))
+  pub accepted-rows : Ordered rowWidth (bodyIn b 5)
+  accepted-rows = rows-ordered (bodyIn b 5) (rows-sorted _ _ (accepted-right b e .records .rows))

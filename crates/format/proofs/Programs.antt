@@ -3,7 +3,7 @@
 use mathlib.Core.Path.{_≡_, refl, sym, ap, _∙_}
 use mathlib.Core.Bool.{Bool, _||_, or-false}
 use mathlib.Core.List.{List, [], _∷_, _++_}
-use Prim.Native.Nat.{ℕ, suc, _+_, _^_, _<_}
+use Prim.Native.Nat.{ℕ, _+_, _^_, _<_}
 use native.Mathlib.Numerals.{add-one}
 use native.Mathlib.Omega.{arith}
 use lib.Bits.{bitOr, or-lt}
@@ -23,9 +23,6 @@ use Rattle.format.proofs.Masks.{in-or, in-none, same-set}
 pub binds-more : (p : List Action) (x : Action) (v : ℕ) → binds (p ++ (x ∷ [])) v ≡ (binds p v || some (speaks 2 v) (fieldsOf x))
 binds-more p x v =
     some-append (λ y. some (speaks 2 v) (fieldsOf y)) p (x ∷ []) ∙ ap (λ (b : Bool). binds p v || b) (or-false (some (speaks 2 v) (fieldsOf x)))
-
-pub binds-next : (l : List Action) (k : ℕ) (d : Action) → k < length l → (v : ℕ) → binds (take (suc k) l) v ≡ (binds (take k l) v || some (speaks 2 v) (fieldsOf (getD l k d)))
-binds-next l k d h v = rw (take-suc l k d h) (binds-more (take k l) (getD l k d) v)
 
 -- ---- as sets
 pub bound-none : boundBy [] ≡ 0

@@ -8,7 +8,7 @@ use native.Mathlib.Omega.{arith}
 use lib.Dec.{ltb}
 use lib.ListN.{length, length-take, length-drop}
 use Rattle.words.specs.Lists.{firstBad}
-use Rattle.words.specs.Tables.{tableOf}
+use Rattle.words.specs.Tables.{tableOf, Ordered}
 use Rattle.words.proofs.Tables.{table-length}
 use Rattle.net.specs.Records.{siteWidth, nodeWidth, aspectWidth, actionWidth, rowWidth, readSite, readNode, readAspect, readAction, readRow}
 use Rattle.net.specs.Net.{mostNodes, names}
@@ -17,8 +17,7 @@ use Rattle.net.proofs.Bodies.{most-length, entry-of, body-length}
 use Rattle.rulebook.specs.Rulebook.{nodeOk, aspectOk}
 use Rattle.format.specs.Format.{siteOk, actionOk, rowOk, stateOk}
 use Rattle.format.specs.Verdict.{badSite, badNode, badAspect, badAction, badRow, badState}
-use Rattle.format.proofs.Order.{InOrder}
-use Rattle.format.proofs.Ordered.{actions-sorted, actions-in-order}
+use Rattle.format.proofs.Ordered.{actions-sorted, actions-ordered}
 use Rattle.format.proofs.Verdicts.{bad-none}
 
 -- ---- how long parts are
@@ -68,11 +67,11 @@ module _ (s : List ℕ) {sites : List ℕ} (p : sites ≡ bodyIn s 1) where
     state-is e = e ∙ rw (p, q)
 
     -- where no action is bad their owners are in order
-    pub then-ordered : ltb (badAction (stateIn s)) (length (actionsIn (bodyIn s 4))) ≡ false → InOrder actionWidth actions
+    pub then-ordered : ltb (badAction (stateIn s)) (length (actionsIn (bodyIn s 4))) ≡ false → Ordered actionWidth actions
     then-ordered e =
         let n = length (sitesIn (bodyIn s 1)) in
         let l = actionsIn (bodyIn s 4) in
-        rw q (actions-in-order (bodyIn s 4) (actions-sorted n l (bad-none (actionOk n l) (length l) e)))
+        rw q (actions-ordered (bodyIn s 4) (actions-sorted n l (bad-none (actionOk n l) (length l) e)))
 
   module _ {rows : List ℕ} (q : rows ≡ bodyIn s 5) where
     pub rows-are : length rows / rowWidth ≡ length (rowsIn (bodyIn s 5))

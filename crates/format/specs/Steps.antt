@@ -2,9 +2,9 @@
 -- `variableOk` speaks of each variable by itself, and gives the last part of the verdict by itself. Theorems say that all this comes to the
 -- rules of `Format` and `Verdict`. Assumes nothing.
 use Prim.Native.Nat.{ℕ, _/_, _%_, _^_}
-use mathlib.Core.Bool.{Bool, true, false, cond, not, _&&_, _||_}
+use mathlib.Core.Bool.{Bool, true, false, cond, not, _&&_}
 use mathlib.Core.List.{List, [], _∷_}
-use lib.Dec.{ltb, leb, eqb}
+use lib.Dec.{ltb, eqb}
 use lib.ListN.{length}
 use lib.Bits.{bitAnd, bitOr}
 use Rattle.net.specs.declared.Operand.{Operand}

@@ -6,6 +6,8 @@ ghost use Prim.Native.Nat.{ℕ, _+_, _*_, _≤_, _<_};
 ghost use lib.Dec.{eqb};
 ghost use lib.ListN.{length, getD};
 ghost use Rattle.words.specs.Lists.{firstBad, before, allOf};
+ghost use Rattle.net.specs.Records.{actionWidth};
+ghost use Rattle.net.specs.Net.{programLimit};
 ghost use Rattle.net.specs.Image.{actionsIn};
 ghost use Rattle.rulebook.specs.Parts.{ownersIn, ownerOk, roomOk};
 ghost use Rattle.format.specs.Format.{actionOk};
@@ -46,8 +48,8 @@ fn form_ok(bound: u8, x: Action) -> bool
 
 // Whether action k is good, after actions whose owners never fall and that bind `bound` where they are of its program.
 fn action_ok(actions: &[u8], sites: usize, k: usize, bound: u8, x: Action) -> bool
-    requires { ⌜ (24 * k + 24 ≤ length (now actions)) × ((j : ℕ) → j < k → before (ownersIn 24 (now actions)) j ≤ getD (ownersIn 24 (now actions)) j 0) ⌝ }
-    ensures { λ r. ⌜ r ≡ ((ownerOk sites (ownersIn 24 (now (actions .entry))) k && roomOk 16 (ownersIn 24 (now (actions .entry))) k) && allOf (formRules bound x)) ⌝ }
+    requires { ⌜ (actionWidth * k + actionWidth ≤ length (now actions)) × ((j : ℕ) → j < k → before (ownersIn actionWidth (now actions)) j ≤ getD (ownersIn actionWidth (now actions)) j 0) ⌝ }
+    ensures { λ r. ⌜ r ≡ ((ownerOk sites (ownersIn actionWidth (now (actions .entry))) k && roomOk programLimit (ownersIn actionWidth (now (actions .entry))) k) && allOf (formRules bound x)) ⌝ }
 {
     place_ok(actions, ACTION_WIDTH, PROGRAM_LIMIT, sites, k) && form_ok(bound, x)
 }

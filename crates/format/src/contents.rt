@@ -40,7 +40,7 @@ const MOST_BYTES: usize = HEADER
             + (ASPECT_WIDTH * MOST_ASPECTS
                 + (ACTION_WIDTH * MOST_ACTIONS + ROW_WIDTH * MOST_ROWS))));
 
-// Both by kind; kinds count from 1.
+// The width of the records of each kind, and the most of them; kinds count from 1.
 const WIDTH: [usize; 6] = [
     0,
     SITE_WIDTH,

@@ -105,9 +105,9 @@ fn check_state(s: &[u8]) -> Verdict
     if row < rows.len() / ROW_WIDTH {
         return Verdict::BadRow(row as u16);
     }
-    let site = first_bad_state(sites, actions);
-    if site < n {
-        return Verdict::BadState(site as u16);
+    let state = first_bad_state(sites, actions);
+    if state < n {
+        return Verdict::BadState(state as u16);
     }
     Verdict::Accepted
 }

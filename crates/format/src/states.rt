@@ -1,10 +1,12 @@
 // The state of each site: its position lies in its program, and a variable is set exactly when an action before the position binds it.
 ghost use mathlib.Core.Path.{_≡_};
 ghost use mathlib.Core.Bool.{not, Bool·beq};
-ghost use Prim.Native.Nat.{ℕ, _+_, _*_, _-_, _/_, _≤_, _<_};
+ghost use Prim.Native.Nat.{_+_, _*_, _-_, _≤_};
 ghost use lib.Dec.{eqb};
 ghost use lib.ListN.{length, getD, take, drop};
 ghost use Rattle.words.specs.Lists.{firstBad, every, allOf};
+ghost use Rattle.words.specs.Tables.{Ordered};
+ghost use Rattle.net.specs.Records.{actionWidth};
 ghost use Rattle.net.specs.Image.{sitesIn, actionsIn};
 ghost use Rattle.format.specs.Format.{placed, stateOk};
 ghost use Rattle.format.specs.Steps.{inSet, boundBy};
@@ -18,7 +20,7 @@ use words::count_below;
 
 // The variables that n actions bind, from action `from` on.
 fn bound_by(actions: &[u8], from: usize, n: usize) -> u8
-    requires { ⌜ 24 * (from + n) ≤ length (now actions) ⌝ }
+    requires { ⌜ actionWidth * (from + n) ≤ length (now actions) ⌝ }
     ensures { λ r. ⌜ r ≡ boundBy (take n (drop from (actionsIn (now (actions .entry))))) ⌝ }
 {
     let mut bound = 0;
@@ -48,7 +50,7 @@ fn set_right(vars: [u16; 8], bound: u8) -> bool
 
 // Whether the state of a site is good whose program is the actions from..to.
 fn state_ok(actions: &[u8], from: usize, to: usize, x: Site) -> bool
-    requires { ⌜ (from ≤ to) × (24 * to ≤ length (now actions)) ⌝ }
+    requires { ⌜ (from ≤ to) × (actionWidth * to ≤ length (now actions)) ⌝ }
     ensures { λ r. ⌜ r ≡ allOf (placed (take (to - from) (drop from (actionsIn (now (actions .entry))))) (x .position) (x .vars)) ⌝ }
 {
     let position = x.position as usize;
@@ -58,7 +60,7 @@ fn state_ok(actions: &[u8], from: usize, to: usize, x: Site) -> bool
 
 // The number of the first site whose state is bad, or how many sites there are. The actions are in the order of their owners.
 pub fn first_bad_state(sites: &[u8], actions: &[u8]) -> usize
-    requires { ⌜ ((i j : ℕ) → i ≤ j → j < length (now actions) / 24 → getD (now actions) (24 * i) 0 ≤ getD (now actions) (24 * j) 0) ⌝ }
+    requires { ⌜ Ordered actionWidth (now actions) ⌝ }
     ensures { λ r. ⌜ (r ≡ firstBad (stateOk (actionsIn (now (actions .entry))) (sitesIn (now (sites .entry)))) (length (sitesIn (now (sites .entry))))) × (r ≤ length (sitesIn (now (sites .entry)))) ⌝ }
 {
     let n = sites.len() / SITE_WIDTH;

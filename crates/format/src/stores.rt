@@ -5,6 +5,8 @@ ghost use Prim.Native.Nat.{ℕ, _+_, _*_, _≤_, _<_};
 ghost use lib.Dec.{ltb, eqb};
 ghost use lib.ListN.{length, getD};
 ghost use Rattle.words.specs.Lists.{firstBad, before};
+ghost use Rattle.net.specs.Records.{rowWidth};
+ghost use Rattle.net.specs.Net.{storeLimit};
 ghost use Rattle.net.specs.Image.{rowsIn};
 ghost use Rattle.rulebook.specs.Parts.{countOk, ownersIn, ownerOk, roomOk};
 ghost use Rattle.format.specs.Format.{fieldsOk, rowOk};
@@ -33,8 +35,8 @@ fn fields_ok(n: u8, f: [u16; 4]) -> bool
 
 // Whether row k is good, after rows whose owners never fall.
 fn row_ok(rows: &[u8], sites: usize, k: usize, x: Row) -> bool
-    requires { ⌜ (10 * k + 10 ≤ length (now rows)) × ((j : ℕ) → j < k → before (ownersIn 10 (now rows)) j ≤ getD (ownersIn 10 (now rows)) j 0) ⌝ }
-    ensures { λ r. ⌜ r ≡ ((ownerOk sites (ownersIn 10 (now (rows .entry))) k && roomOk 16 (ownersIn 10 (now (rows .entry))) k) && (countOk (x .count) && fieldsOk (x .count) (x .fields))) ⌝ }
+    requires { ⌜ (rowWidth * k + rowWidth ≤ length (now rows)) × ((j : ℕ) → j < k → before (ownersIn rowWidth (now rows)) j ≤ getD (ownersIn rowWidth (now rows)) j 0) ⌝ }
+    ensures { λ r. ⌜ r ≡ ((ownerOk sites (ownersIn rowWidth (now (rows .entry))) k && roomOk storeLimit (ownersIn rowWidth (now (rows .entry))) k) && (countOk (x .count) && fieldsOk (x .count) (x .fields))) ⌝ }
 {
     let f = x.fields;
     place_ok(rows, ROW_WIDTH, STORE_LIMIT, sites, k) && (count_ok(x.count) && fields_ok(x.count, f))

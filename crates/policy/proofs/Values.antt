@@ -15,6 +15,7 @@ use Rattle.net.specs.Records.{nodeWidth, noNode, readNode}
 use Rattle.net.specs.Net.{nodeAt}
 use Rattle.net.specs.Image.{nodesIn}
 use Rattle.net.specs.declared.Node.{Node}
+use Rattle.policy.specs.Asked.{Evaluable}
 use Rattle.policy.specs.House.{Ask, yes, advice, conditionOf, adviceOf, valueOf, rowOf}
 use Rattle.policy.proofs.Sorts.{value-read, yes-read, yes-none, advice-read, advice-none}
 
@@ -83,3 +84,8 @@ module _ (q : Ask) (s : List ℕ) (n top : ℕ) where
     pub advice-beyond : 24 < kind → 0 ≡ advice (getD (row top) n 0)
     unfolding adviceOf readNode
     advice-beyond large = advice-here (omega arith) (simp (ne-eqb kind 16 (λ e. omega arith), ne-eqb kind 17 (λ e. omega arith), ne-eqb kind 18 (λ e. omega arith)) (sym (operate-beyond (kind - 19) (omega arith) _ _)))
+
+-- what is asked of a table below top holds below each of its nodes
+pub below-asked : {n top t : ℕ} {nodes rows terms vars : List ℕ} → n < top → top ≡ t → Evaluable top nodes rows terms vars → (n < t) × Evaluable n nodes rows terms vars
+below-asked h e p =
+    (omega arith, record { there = let l = p .there in omega arith; counted = let l = p .counted in omega arith; eight-terms = p .eight-terms; eight-vars = p .eight-vars; ordered = p .ordered })

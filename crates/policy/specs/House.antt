@@ -42,12 +42,15 @@ demands c l r = record { capability = c; left = l; right = r }
 
 abbrev pub mandatoryRules : List Rule
 mandatoryRules =
+    -- put: O of the target over C and HS of the source
     demands 1 4 1
     ∷ demands 1 4 3
+    -- take: both these and those of read
     ∷ demands 2 4 1
     ∷ demands 2 4 3
     ∷ demands 2 0 4
     ∷ demands 2 0 5
+    -- read: S of the source over O and HO of the target
     ∷ demands 3 0 4
     ∷ demands 3 0 5
     ∷ []

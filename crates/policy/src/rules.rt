@@ -12,9 +12,11 @@ pub struct Rule {
     pub right: usize,
 }
 
+// How many rules there are, and the rules.
 const COUNT: usize = 8;
 
 const RULES: [Rule; COUNT] = [
+    // put: O of the target over C and HS of the source
     Rule {
         capability: 1,
         left: 4,
@@ -25,6 +27,7 @@ const RULES: [Rule; COUNT] = [
         left: 4,
         right: 3,
     },
+    // take: both these and those of read
     Rule {
         capability: 2,
         left: 4,
@@ -45,6 +48,7 @@ const RULES: [Rule; COUNT] = [
         left: 0,
         right: 5,
     },
+    // read: S of the source over O and HO of the target
     Rule {
         capability: 3,
         left: 0,

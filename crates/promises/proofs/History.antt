@@ -9,7 +9,7 @@ use lib.ListN.{length, set}
 use lib.Seq.{getD-set-same, lt-length-set}
 use Rattle.words.proofs.Truth.{is-T, T-is, both-T}
 use Rattle.level.specs.Level.{dominates, join}
-use Rattle.level.proofs.Laws.{dominates-refl, dominates-trans, join-left, join-right}
+use Rattle.level.proofs.Laws.{dominates-refl, dominates-trans, join-left}
 use Rattle.belnap.specs.Belnap.{grants, gatherOf}
 use Rattle.belnap.proofs.Laws.{gather-grants}
 use Rattle.net.specs.Records.{noSite}
@@ -18,6 +18,7 @@ use Rattle.net.specs.declared.Site.{Site}
 use Rattle.policy.specs.House.{Act, termsOf, termsIn, mandatory, policy, judge}
 use Rattle.policy.proofs.Mandatory.{mandatory-put, mandatory-take}
 use Rattle.stepping.specs.Step.{doing, change, advance, marked, loses, informed, boundBy, hasRoom, putAfter, gotAfter, Plan, refuse, put, get, asking, done, step, final}
+use Rattle.stepping.proofs.Informed.{informed-knows}
 use Rattle.stepping.proofs.StepLaws.{asked-put, asked-get}
 
 -- what became of a site: its class and clearance are as they were, its histories have not fallen
@@ -41,9 +42,6 @@ risen-then x y z p q = record {
 -- a join of three dominates each
 join-first : (a b c : ℕ) → T (dominates (join (join a b) c) a)
 join-first a b c = dominates-trans (join (join a b) c) (join a b) a (join-left (join a b) c) (join-left a b)
-
-join-second : (a b c : ℕ) → T (dominates (join (join a b) c) b)
-join-second a b c = dominates-trans (join (join a b) c) (join a b) b (join-left (join a b) c) (join-right a b)
 
 -- ---- one site changed
 risen-change : (f : Site → Site) → ((x : Site) → Risen x (f x)) → (i : ℕ) (l : List Site) (k : ℕ) → Risen (siteAt l k) (siteAt (change f i l) k)
@@ -110,7 +108,7 @@ got-knows s act k h =
     let l = change (advance (boundBy s act k)) i (s .sites) in
     let x = siteAt l i in
     let b = lt-length-set (s .sites) i (advance (boundBy s act k) (siteAt (s .sites) i)) h in
-    rw (getD-set-same l i (informed (y .o) (y .ho) x) noSite b) (join-second (x .hs) (y .o) (y .ho), join-right (join (x .hs) (y .o)) (y .ho))
+    rw (getD-set-same l i (informed (y .o) (y .ho) x) noSite b) (informed-knows (y .o) (y .ho) x)
 
 pub what-is-read-is-known : (r : Rules) (s : State) (i : ℕ) (act : Act) (k : ℕ) → asking r s i ≡ get act k
     → Knows (step r s i .after) i (siteAt (s .sites) (act .target))

@@ -12,17 +12,16 @@ use borrow.Author.Tests.{le-ltb}
 use lib.Dec.{ltb}
 use lib.ListN.{length, getD, take, drop}
 use Rattle.words.specs.Lists.{firstBad, allOf}
-use Rattle.words.specs.Tables.{countBelow}
+use Rattle.words.specs.Tables.{Ordered, countBelow}
 use Rattle.words.proofs.First.{first-none, first-more, first-stops, first-is}
 use Rattle.words.proofs.Tables.{table-length, table-at}
 use Rattle.words.proofs.Truth.{fails, holds}
-use Rattle.words.proofs.Groups.{below, low-high, group}
+use Rattle.words.proofs.Groups.{below, low-high, group, table-below, table-sorted}
 use Rattle.net.specs.Records.{siteWidth, actionWidth, noSite, noAction, readSite, readAction}
 use Rattle.net.specs.Image.{sitesIn, actionsIn}
 use Rattle.net.specs.declared.Site.{Site}
 use Rattle.net.specs.declared.Action.{Action}
 use Rattle.format.specs.Format.{placed, stateOk}
-use Rattle.format.proofs.Order.{InOrder, order-table, below-bytes}
 use Rattle.format.proofs.states.first_bad_state.Statement.{statement}
 use Rattle.format.proofs.states.first_bad_state.Tie as tie
 
@@ -36,16 +35,16 @@ lower s k = below owner noAction (actionsIn s) k
 lower-none : (s : List ℕ) → lower s 0 ≡ 0
 lower-none s = first-is (λ k. ltb (owner (getD (actionsIn s) k noAction)) 0) (length (actionsIn s)) 0 (omega arith) (λ j h. absurd (not-suc-le-zero h)) (λ h. le-ltb (owner (getD (actionsIn s) 0 noAction)) 0 zero-le)
 
-module _ (s : List ℕ) (order : InOrder actionWidth s) where
-  front : (i : ℕ) → owner (readAction s i) ≡ getD s i 0
-  unfolding readAction
-  front i = refl
+front : (s : List ℕ) (i : ℕ) → owner (readAction s i) ≡ getD s i 0
+unfolding readAction
+front s i = refl
 
+module _ (s : List ℕ) (order : Ordered actionWidth s) where
   lower-found : (k : ℕ) {r : ℕ} → r ≡ countBelow s actionWidth (length s / actionWidth) (k + 1) → r ≡ lower s (suc k)
-  lower-found k f = f ∙ rw (add-one k) (below-bytes owner noAction refl readAction actionWidth s front (suc k))
+  lower-found k f = f ∙ rw (add-one k) (table-below owner noAction readAction front actionWidth s (suc k))
 
   lower-next : (k : ℕ) → lower s k ≤ lower s (suc k)
-  lower-next k = low-high owner noAction (actionsIn s) (order-table owner noAction refl readAction actionWidth s front order) k
+  lower-next k = low-high owner noAction (actionsIn s) (table-sorted owner noAction readAction front actionWidth s order) k
 
   module _ (sites : List ℕ) (k : ℕ) (h : k < length sites / siteWidth) where
     -- what was tested of site k is its rule
@@ -53,7 +52,7 @@ module _ (s : List ℕ) (order : InOrder actionWidth s) where
         → r ≡ allOf (placed (take (to - from) (drop from (actionsIn s))) (x .position) (x .vars)) → r ≡ stateOk (actionsIn s) (sitesIn sites) k
     unfolding stateOk
     tested a b e f =
-        f ∙ rw (a, b, e, ← table-at readSite siteWidth sites k noSite h, ← group owner noAction (actionsIn s) (order-table owner noAction refl readAction actionWidth s front order) k)
+        f ∙ rw (a, b, e, ← table-at readSite siteWidth sites k noSite h, ← group owner noAction (actionsIn s) (table-sorted owner noAction readAction front actionWidth s order) k)
 
 abbrev Inv-loop : tie.InvT-loop
 Inv-loop sites actions n m from₀ k₀ from k = (k ≤ n) × (from ≡ lower actions k) × (firstBad (stateOk (actionsIn actions) (sitesIn sites)) k ≡ k)

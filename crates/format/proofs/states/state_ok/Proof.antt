@@ -10,13 +10,13 @@ use lib.ListN.{length, getD, take, drop, length-drop}
 use lib.Seq.{length-take-le, take-take}
 use borrow.Author.Tests.{le-leb, lt-leb}
 use Rattle.words.specs.Lists.{every, allOf}
+use Rattle.words.proofs.First.{first-same}
 use Rattle.words.proofs.Tables.{table-length}
 use Rattle.net.specs.Records.{actionWidth}
 use Rattle.net.specs.Image.{actionsIn}
 use Rattle.net.specs.declared.Action.{Action}
 use Rattle.format.specs.Format.{binds, placed}
 use Rattle.format.specs.Steps.{inSet, boundBy}
-use Rattle.format.proofs.Order.{first-same}
 use Rattle.format.proofs.Programs.{in-bound}
 use borrow.Author.Needs.{needs}
 use Rattle.format.proofs.states.state_ok.Statement.{statement}

@@ -3,7 +3,7 @@
 use denote.Ref.{now}
 use mathlib.Core.Path.{_≡_, ap}
 use mathlib.Core.Bool.{Bool, not}
-use Prim.Native.Nat.{ℕ, _*_, _^_, _<_, _≤_}
+use Prim.Native.Nat.{ℕ, _*_, _<_, _≤_}
 use native.Mathlib.Omega.{arith}
 use borrow.Author.Needs.{needs}
 use borrow.Author.Tests.{ne-eqb}
@@ -15,7 +15,7 @@ use Rattle.net.specs.Records.{fourOperands, readNode}
 use Rattle.net.specs.Image.{sitesIn, nodesIn, rowsIn}
 use Rattle.policy.specs.Asked.{Evaluable}
 use Rattle.policy.specs.House.{Ask, ask, yes, advice, testOf, wanted, conditionOf, adviceOf, rowOf}
-use Rattle.policy.proofs.Values.{yes-past, yes-here, yes-else, advice-past, advice-here, advice-else, advice-beyond}
+use Rattle.policy.proofs.Values.{yes-past, yes-here, yes-else, advice-past, advice-here, advice-else, advice-beyond, below-asked}
 use Rattle.policy.proofs.eval.advises.Reads as advises
 use Rattle.policy.proofs.eval.advises.Kinds as advises-kinds
 use Rattle.policy.proofs.eval.+advises+holds.Lts-advises as advises-lts
@@ -38,10 +38,6 @@ abbrev μ-advises : Measures 8 advises-kinds.ps ℕ
 
 abbrev μ-holds : Measures 8 holds-kinds.ps ℕ
 μ-holds κs a = a .1 .0
-
--- what is asked of a node below top is asked of its children, below the node: its record is there
-lower : {n top t size : ℕ} → n < top → top ≡ t → 24 * top ≤ size → 24 * top < 2 ^ 64 → (n < t) × (24 * n ≤ size) × (24 * n < 2 ^ 64)
-lower h e l w = omega arith
 
 module _ (t : ℕ) where
   abbrev advises-at : In 8 advises-kinds.ps
@@ -71,10 +67,7 @@ module _ (t : ℕ) where
     a-ask = let a = a-start .args in ask (sitesIn (now (now (a .sites)))) (rowsIn (now (now (a .rows)))) (now (a .terms)) (now (a .vars))
 
     a-child : (let a = a-start .args in (a .n < t) × Evaluable (a .n) (now (now (a .nodes))) (now (now (a .rows))) (now (a .terms)) (now (a .vars)))
-    a-child =
-        let p = a-start .pre in
-        let h = lower (k .before .before .if1 .left) (p .0) (p .1 .there) (p .1 .counted) in
-        (h .0, record { there = h .1; counted = h .2; eight-terms = p .1 .eight-terms; eight-vars = p .1 .eight-vars; ordered = p .1 .ordered })
+    a-child = below-asked (k .before .before .if1 .left) (a-start .pre .0) (a-start .pre .1)
 
     advice-is : {r : ℕ}
         → (let a = a-start .args in 16 ≤ getD (now (now (a .nodes))) (24 * a .n) 0 → r ≡ adviceOf (readNode (now (now (a .nodes))) (24 * a .n)) (rowOf a-ask (nodesIn (now (now (a .nodes)))) (a .n))
@@ -90,10 +83,7 @@ module _ (t : ℕ) where
     h-ask = let a = h-start .args in ask (sitesIn (now (now (a .sites)))) (rowsIn (now (now (a .rows)))) (now (a .terms)) (now (a .vars))
 
     h-child : (let a = h-start .args in (a .n < t) × Evaluable (a .n) (now (now (a .nodes))) (now (now (a .rows))) (now (a .terms)) (now (a .vars)))
-    h-child =
-        let p = h-start .pre in
-        let h = lower (k .before .before .if1 .left) (p .0) (p .1 .there) (p .1 .counted) in
-        (h .0, record { there = h .1; counted = h .2; eight-terms = p .1 .eight-terms; eight-vars = p .1 .eight-vars; ordered = p .1 .ordered })
+    h-child = below-asked (k .before .before .if1 .left) (h-start .pre .0) (h-start .pre .1)
 
     yes-is : {r : Bool}
         → (let a = h-start .args in getD (now (now (a .nodes))) (24 * a .n) 0 < 16 → r ≡ conditionOf h-ask (readNode (now (now (a .nodes))) (24 * a .n)) (rowOf h-ask (nodesIn (now (now (a .nodes)))) (a .n))
@@ -204,67 +194,20 @@ module _ (t : ℕ) where
 pub +advises+holds-spec : {M : Type 1} → statement M
 +advises+holds-spec = close μ-advises μ-holds
     (λ t. advises-lts.spec (advises-claims t) (advises-at t) advises.Post
-    (advises-returns t)
-    (λ c. search needs)
-    (λ c. search needs)
-    (λ c. search needs)
-    (λ c κs. search needs)
-    (λ c. search needs)
-    (λ c. search needs)
-    (λ c κs. search needs)
-    (λ c κs. a-child t (c .before .before))
-    (advises-returns-2 t)
-    (λ c. search needs)
-    (λ c κs. search needs)
-    (λ c κs. a-child t (c .before .before))
-    (λ c κs. search needs)
-    (advises-returns-3 t)
-    (advises-returns-4 t)
-    (λ c. search needs)
-    (λ c κs. search needs)
-    (λ c κs. a-child t (c .before .before .before .before))
-    (λ c. search needs)
-    (λ c κs. search needs)
-    (λ c κs. a-child t (c .before .before .before .before .before .before))
-    (λ c κs. search needs)
-    (advises-returns-5 t)
-    (advises-returns-6 t)
-    (advises-returns-7 t)
-    (advises-returns-8 t))
+    (advises-returns t) (λ c. search needs) (λ c. search needs) (λ c. search needs) (λ c κs. search needs)
+    (λ c. search needs) (λ c. search needs) (λ c κs. search needs) (λ c κs. a-child t (c .before .before))
+    (advises-returns-2 t) (λ c. search needs) (λ c κs. search needs) (λ c κs. a-child t (c .before .before))
+    (λ c κs. search needs) (advises-returns-3 t) (advises-returns-4 t) (λ c. search needs) (λ c κs. search needs)
+    (λ c κs. a-child t (c .before .before .before .before)) (λ c. search needs) (λ c κs. search needs)
+    (λ c κs. a-child t (c .before .before .before .before .before .before)) (λ c κs. search needs)
+    (advises-returns-5 t) (advises-returns-6 t) (advises-returns-7 t) (advises-returns-8 t))
     (λ t. holds-lts.spec (holds-claims t) (holds-at t) holds.Post
-    (holds-returns t)
-    (λ c. search needs)
-    (λ c. search needs)
-    (λ c. search needs)
-    (λ c κs. search needs)
-    (λ c κs. h-child t (c .before .before))
-    (λ c. search needs)
-    (λ c κs. search needs)
-    (λ c κs. h-child t (c .before .before))
-    (holds-returns-2 t)
-    (λ c. search needs)
-    (λ c κs. search needs)
-    (λ c κs. h-child t (c .before .before .before .before .before))
-    (λ c. search needs)
-    (λ c κs. search needs)
-    (λ c κs. h-child t (c .before .before))
-    (holds-returns-3 t)
-    (λ c. search needs)
-    (λ c κs. search needs)
-    (λ c κs. h-child t (c .before .before .before .before .before))
-    (λ c κs. search needs)
-    (λ c κs. search needs)
-    (λ c κs. search needs)
-    (λ c. search needs)
-    (λ c κs. search needs)
-    (λ c κs. h-child t (c .before .before))
-    (λ c κs. search needs)
-    (holds-returns-4 t)
-    (holds-returns-5 t)
-    (holds-returns-6 t)
-    (holds-returns-7 t)
-    (holds-returns-8 t)
-    (holds-returns-9 t)
-    (holds-returns-10 t)
-    (holds-returns-11 t)
-    (holds-returns-12 t))
+    (holds-returns t) (λ c. search needs) (λ c. search needs) (λ c. search needs) (λ c κs. search needs)
+    (λ c κs. h-child t (c .before .before)) (λ c. search needs) (λ c κs. search needs)
+    (λ c κs. h-child t (c .before .before)) (holds-returns-2 t) (λ c. search needs) (λ c κs. search needs)
+    (λ c κs. h-child t (c .before .before .before .before .before)) (λ c. search needs) (λ c κs. search needs)
+    (λ c κs. h-child t (c .before .before)) (holds-returns-3 t) (λ c. search needs) (λ c κs. search needs)
+    (λ c κs. h-child t (c .before .before .before .before .before)) (λ c κs. search needs) (λ c κs. search needs)
+    (λ c κs. search needs) (λ c. search needs) (λ c κs. search needs) (λ c κs. h-child t (c .before .before))
+    (λ c κs. search needs) (holds-returns-4 t) (holds-returns-5 t) (holds-returns-6 t) (holds-returns-7 t)
+    (holds-returns-8 t) (holds-returns-9 t) (holds-returns-10 t) (holds-returns-11 t) (holds-returns-12 t))
