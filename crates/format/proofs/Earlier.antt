@@ -8,6 +8,7 @@ use Prim.Native.Nat.{ℕ, zero, _+_, _≤_, _<_}
 use native.Mathlib.Nat.{not-suc-le-zero, le-of-suc-le-suc, eq-or-lt-of-le}
 use native.Mathlib.Numerals.{add-one}
 use native.Mathlib.Omega.{arith}
+use lib.Bits.{bitOr}
 use lib.Dec.{T, ltb, eqb, leb→le}
 use lib.ListN.{length, getD, take}
 use lib.Seq.{getD-take, length-take-le, take-suc}
@@ -21,15 +22,15 @@ use Rattle.net.specs.Net.{programLimit, actionAt, program, fieldsOf}
 use Rattle.net.specs.declared.Action.{Action}
 use Rattle.rulebook.specs.Parts.{tagsOf, operandOk, operandsOk, countOk, capabilityOk, ownerOk, roomOk}
 use Rattle.format.specs.Format.{actionRules, actionOk, variableOk}
-use Rattle.format.specs.Steps.{boundBy, boundToo, partsOk, formRules}
+use Rattle.format.specs.Steps.{setOf, boundBy, partsOk, formRules}
 use Rattle.format.proofs.Order.{never-fell, owner-of}
 use Rattle.format.proofs.Parts.{parts}
-use Rattle.format.proofs.Programs.{bound-more}
+use Rattle.format.proofs.Programs.{bound-none, bound-more}
 
 abbrev pub owners : List Action → List ℕ
 owners = map (λ x. x .owner)
 
-pub record Earlier (sites : ℕ) (l : List Action) (k last : ℕ) (bound : List Bool) : Type 0 where
+pub record Earlier (sites : ℕ) (l : List Action) (k last bound : ℕ) : Type 0 where
   pub good : firstBad (actionOk sites l) k ≡ k
   pub highest : (j : ℕ) → j < k → getD (owners l) j 0 ≤ last
   pub latest : last ≡ before (owners l) k
@@ -68,17 +69,17 @@ module _ (sites : ℕ) (l : List Action) (k : ℕ) where
       ∷ []
 
   -- the rules of action k, with the variables that its program binds so far as a set
-  pub rules-with : (bound : List Bool) → (T (ownerOk sites (owners l) k) → bound ≡ boundBy (program (here .owner) (take k l)))
+  pub rules-with : (bound : ℕ) → (T (ownerOk sites (owners l) k) → bound ≡ boundBy (program (here .owner) (take k l)))
       → ((ownerOk sites (owners l) k && roomOk programLimit (owners l) k) && allOf (formRules bound here)) ≡ actionOk sites l k
   unfolding actionOk
   rules-with bound f =
       let p = program (here .owner) (take k l) in
       and-assoc (ownerOk sites (owners l) k) (roomOk programLimit (owners l) k) (allOf (formRules bound here))
-      ∙ sym (last-same rules (every (variableOk p here) 8) (partsOk bound (here .target) (here .fields))
-      (λ t. parts p here (tagsOf (not (eqb (here .capability) 1)) false false) (part rules t 5) (part rules t 6) bound (f (part rules t 0))))
+      ∙ sym (last-same rules (every (variableOk p here) 8) (partsOk bound (here .target) (fieldsOf here))
+      (λ t. parts p here (part rules t 5) ∙ ap (λ (b : ℕ). partsOk b (here .target) (fieldsOf here)) (sym (f (part rules t 0)))))
       ∙ rw (field-tags (eqb (here .capability) 1))
 
-  module _ (last : ℕ) (bound : List Bool) (e : Earlier sites l k last bound) where
+  module _ (last bound : ℕ) (e : Earlier sites l k last bound) where
     -- owners never fall so far
     pub in-order : (j : ℕ) → j < k → before (owners l) j ≤ getD (owners l) j 0
     in-order = never-fell sites (owners l) k (actionOk sites l) owner-good (e .good)
@@ -101,15 +102,15 @@ module _ (sites : ℕ) (l : List Action) (k : ℕ) where
           (ne-eqb (actionAt l j .owner) (here .owner) (λ z. eqb-false (here .owner) last q (omega (arith, e .highest j b, owner-of (λ x. x .owner) noAction refl l j, risen t)))))
 
       -- the set for action k
-      pub bound-now : T (ownerOk sites (owners l) k) → cond (eqb (here .owner) last) bound (boundBy []) ≡ boundBy (program (here .owner) (take k l))
+      pub bound-now : T (ownerOk sites (owners l) k) → cond (eqb (here .owner) last) bound 0 ≡ boundBy (program (here .owner) (take k l))
       bound-now t = pick (eqb (here .owner) last) refl
         where
-          pick : (b : Bool) → eqb (here .owner) last ≡ b → cond b bound (boundBy []) ≡ boundBy (program (here .owner) (take k l))
+          pick : (b : Bool) → eqb (here .owner) last ≡ b → cond b bound 0 ≡ boundBy (program (here .owner) (take k l))
           pick true q = e .binds ∙ ap (λ (o : ℕ). boundBy (program o (take k l))) (sym (eqb-true (here .owner) last q))
-          pick false q = ap boundBy (sym (begins t q))
+          pick false q = sym (ap boundBy (begins t q) ∙ bound-none)
 
       -- one action more
-      pub earlier-more : actionOk sites l k ≡ true → {after : List Bool} → after ≡ boundToo (cond (eqb (here .owner) last) bound (boundBy [])) (fieldsOf here)
+      pub earlier-more : actionOk sites l k ≡ true → {after : ℕ} → after ≡ bitOr (cond (eqb (here .owner) last) bound 0) (setOf 2 (fieldsOf here))
           → Earlier sites l (k + 1) (here .owner) after
       earlier-more ok f =
           let t = owner-good k ok in
@@ -120,10 +121,10 @@ module _ (sites : ℕ) (l : List Action) (k : ℕ) where
             latest = rw (add-one k) (sym owner-is);
             binds =
                 f ∙ rw (bound-now t)
-                (sym (bound-more (program o (take k l)) here)
+                (bound-more (program o (take k l)) here
                 ∙ ap boundBy (sym (rw (add-one k, take-suc l k noAction inside, those-append (λ x. eqb (x .owner) o) (take k l) (here ∷ []), eq-eqb o o refl))));
           }
 
 -- none yet
-pub earlier-none : (sites : ℕ) (l : List Action) → Earlier sites l 0 0 (boundBy [])
-earlier-none sites l = record { good = first-none (actionOk sites l); highest = λ j h. absurd (not-suc-le-zero h); latest = refl; binds = refl }
+pub earlier-none : (sites : ℕ) (l : List Action) → Earlier sites l 0 0 0
+earlier-none sites l = record { good = first-none (actionOk sites l); highest = λ j h. absurd (not-suc-le-zero h); latest = refl; binds = sym bound-none }

@@ -1,7 +1,8 @@
-pub mod Binding
-pub mod Parts
 pub mod Eight
+pub mod Masks
+pub mod Binding
 pub mod Programs
+pub mod Parts
 pub mod Order
 pub mod Earlier
 pub mod Fields

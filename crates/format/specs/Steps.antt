@@ -1,50 +1,57 @@
--- How the code goes through the rules, for its contracts: it keeps variables as a truth value for each of the eight, tests each part of an
--- action, where the rule `variableOk` speaks of each variable, and gives the last part of the verdict by itself. Theorems say that all this
--- comes to the rules of `Format` and `Verdict`. Assumes nothing.
+-- How the code goes through the rules, for its contracts: it keeps variables as sets, a bit for each of the eight, where the rule
+-- `variableOk` speaks of each variable by itself, and gives the last part of the verdict by itself. Theorems say that all this comes to the
+-- rules of `Format` and `Verdict`. Assumes nothing.
+use Prim.Native.Nat.{ℕ, _/_, _%_, _^_}
 use mathlib.Core.Bool.{Bool, true, false, cond, not, _&&_, _||_}
 use mathlib.Core.List.{List, [], _∷_}
 use lib.Dec.{ltb, leb, eqb}
-use lib.ListN.{length, getD}
-use Rattle.words.specs.Lists.{all, some, count}
-use Rattle.words.specs.Tables.{build}
+use lib.ListN.{length}
+use lib.Bits.{bitAnd, bitOr}
 use Rattle.net.specs.declared.Operand.{Operand}
 use Rattle.net.specs.declared.Action.{Action}
-use Rattle.rulebook.specs.Parts.{tagsOf, operandOk, operandsOk, countOk, capabilityOk, speaks}
-use Rattle.net.specs.Net.{State}
-use Rattle.format.specs.Format.{binds}
+use Rattle.rulebook.specs.Parts.{tagsOf, operandOk, operandsOk, countOk, capabilityOk}
+use Rattle.net.specs.Net.{State, fieldsOf}
 use Rattle.format.specs.Verdict.{badAction, badRow, badState}
 use Rattle.format.specs.declared.Verdict.{Verdict}
 use Rattle.format.specs.declared.Verdict.the-variants.{Accepted, BadAction, BadRow, BadState}
 
--- ---- variables: those that a program binds
-unfoldable pub boundBy : List Action → List Bool
-boundBy p = build 8 (binds p)
+-- ---- sets of the eight variables, a bit for each
+abbrev pub inSet : ℕ → ℕ → Bool
+inSet m v = eqb (m / 2 ^ v % 2) 1
 
--- those of a set and the one that a field binds, if it is used; those that some fields bind
-unfoldable pub boundIf : List Bool → Bool → Operand → List Bool
-boundIf bound used x = build 8 (λ v. getD bound v false || (used && speaks 2 v x))
+-- the variable of a part of an action that has this tag; those of some parts
+unfoldable pub bitOf : ℕ → Operand → ℕ
+bitOf tag x = cond (eqb (x .tag) tag && ltb (x .value) 8) (2 ^ x .value) 0
 
-unfoldable pub boundToo : List Bool → List Operand → List Bool
-boundToo bound l = build 8 (λ v. getD bound v false || some (speaks 2 v) l)
+unfoldable pub setOf : ℕ → List Operand → ℕ
+setOf tag [] = 0
+setOf tag (x ∷ l) = bitOr (bitOf tag x) (setOf tag l)
 
--- the rule for one part of an action: a variable that it uses is bound earlier and by none of the fields f, one that it binds is bound once
-unfoldable pub partOk : List Bool → List Operand → Operand → Bool
-partOk bound f x =
-    cond (eqb (x .tag) 1) (getD bound (x .value) false && eqb (count (speaks 2 (x .value)) f) 0)
-    (cond (eqb (x .tag) 2) (leb (count (speaks 2 (x .value)) f) 1) true)
+-- no two of some parts that have this tag have one variable
+unfoldable pub apart : ℕ → List Operand → Bool
+apart tag [] = true
+apart tag (x ∷ l) = eqb (bitAnd (bitOf tag x) (setOf tag l)) 0 && apart tag l
 
-abbrev pub partsOk : List Bool → Operand → List Operand → Bool
-partsOk bound target f = all (partOk bound f) (target ∷ f)
+-- what the actions of a program bind
+unfoldable pub boundBy : List Action → ℕ
+boundBy [] = 0
+boundBy (x ∷ p) = bitOr (setOf 2 (fieldsOf x)) (boundBy p)
+
+-- the rule for variables, of a target and the fields in use: no variable is bound twice, those used are not bound here, but by earlier actions
+unfoldable pub partsOk : ℕ → Operand → List Operand → Bool
+partsOk bound target l =
+    let uses = bitOr (bitOf 1 target) (setOf 1 l) in
+    apart 2 l && (eqb (bitAnd uses (setOf 2 l)) 0 && eqb (bitAnd uses bound) uses)
 
 -- the rules of an action by itself, where `bound` has the variables that its program's earlier actions bind
-abbrev pub formRules : List Bool → Action → List Bool
+abbrev pub formRules : ℕ → Action → List Bool
 formRules bound x =
     eqb (x .zero) 0
     ∷ capabilityOk (x .capability)
     ∷ countOk (x .count)
     ∷ operandOk (tagsOf false false false) (x .target)
     ∷ operandsOk (tagsOf (not (eqb (x .capability) 1)) false false) (x .count) (x .fields)
-    ∷ partsOk bound (x .target) (x .fields)
+    ∷ partsOk bound (x .target) (fieldsOf x)
     ∷ []
 
 -- ---- 16 to 18: the part of the verdict that turns on actions, rows and the state

@@ -2,7 +2,6 @@
 // none both bound and used, and each used one bound by an earlier action of the same program.
 ghost use mathlib.Core.Path.{_≡_};
 ghost use mathlib.Core.Bool.{cond, _&&_};
-ghost use mathlib.Core.List.{[]};
 ghost use Prim.Native.Nat.{ℕ, _+_, _*_, _≤_, _<_};
 ghost use lib.Dec.{eqb};
 ghost use lib.ListN.{length, getD};
@@ -10,7 +9,7 @@ ghost use Rattle.words.specs.Lists.{firstBad, before, allOf};
 ghost use Rattle.net.specs.Image.{actionsIn};
 ghost use Rattle.rulebook.specs.Parts.{ownersIn, ownerOk, roomOk};
 ghost use Rattle.format.specs.Format.{actionOk};
-ghost use Rattle.format.specs.Steps.{boundBy, formRules};
+ghost use Rattle.format.specs.Steps.{formRules};
 use crate::contents::ACTION_WIDTH;
 use crate::owners::place_ok;
 use crate::variables::bound_too;
@@ -26,17 +25,14 @@ use rulebook::operands_ok;
 const PROGRAM_LIMIT: usize = 16;
 
 // What is bound before an action of `owner` that comes after one of `last`: what that program bound so far, or nothing where a program begins.
-fn bound_for(bound: [bool; 8], last: u8, owner: u8) -> [bool; 8]
-    ensures { λ r. ⌜ r ≡ cond (eqb owner last) bound (boundBy []) ⌝ }
+fn bound_for(bound: u8, last: u8, owner: u8) -> u8
+    ensures { λ r. ⌜ r ≡ cond (eqb owner last) bound 0 ⌝ }
 {
-    if owner == last {
-        return bound;
-    }
-    [false; 8]
+    if owner == last { bound } else { 0 }
 }
 
 // Whether an action is good by itself, after actions of its program that bind `bound`.
-fn form_ok(bound: [bool; 8], x: Action) -> bool
+fn form_ok(bound: u8, x: Action) -> bool
     ensures { λ r. ⌜ r ≡ allOf (formRules bound x) ⌝ }
 {
     let f = x.fields;
@@ -45,11 +41,11 @@ fn form_ok(bound: [bool; 8], x: Action) -> bool
             && (count_ok(x.count)
                 && (operand_ok(x.target, false, false, false)
                     && (operands_ok(f, x.count, x.capability != 1, false, false)
-                        && parts_ok(bound, x.target, f)))))
+                        && parts_ok(bound, x.target, x.count, f)))))
 }
 
 // Whether action k is good, after actions whose owners never fall and that bind `bound` where they are of its program.
-fn action_ok(actions: &[u8], sites: usize, k: usize, bound: [bool; 8], x: Action) -> bool
+fn action_ok(actions: &[u8], sites: usize, k: usize, bound: u8, x: Action) -> bool
     requires { ⌜ (24 * k + 24 ≤ length (now actions)) × ((j : ℕ) → j < k → before (ownersIn 24 (now actions)) j ≤ getD (ownersIn 24 (now actions)) j 0) ⌝ }
     ensures { λ r. ⌜ r ≡ ((ownerOk sites (ownersIn 24 (now (actions .entry))) k && roomOk 16 (ownersIn 24 (now (actions .entry))) k) && allOf (formRules bound x)) ⌝ }
 {
@@ -61,7 +57,7 @@ pub fn first_bad_action(actions: &[u8], sites: usize) -> usize
     ensures { λ r. ⌜ (r ≡ firstBad (actionOk sites (actionsIn (now (actions .entry)))) (length (actionsIn (now (actions .entry))))) × (r ≤ length (actionsIn (now (actions .entry)))) ⌝ }
 {
     let n = actions.len() / ACTION_WIDTH;
-    let mut bound = [false; 8];
+    let mut bound = 0;
     let mut last = 0;
     let mut k = 0;
     while k < n {
@@ -71,8 +67,7 @@ pub fn first_bad_action(actions: &[u8], sites: usize) -> usize
             return k;
         }
         let f = x.fields;
-        let after = bound_too(earlier, x.count, f);
-        bound = after;
+        bound = bound_too(earlier, x.count, f);
         last = x.owner;
         k += 1;
     }

@@ -1,13 +1,13 @@
 // The state of each site: its position lies in its program, and a variable is set exactly when an action before the position binds it.
 ghost use mathlib.Core.Path.{_≡_};
-ghost use mathlib.Core.Bool.{false, not, Bool·beq};
+ghost use mathlib.Core.Bool.{not, Bool·beq};
 ghost use Prim.Native.Nat.{ℕ, _+_, _*_, _-_, _/_, _≤_, _<_};
 ghost use lib.Dec.{eqb};
 ghost use lib.ListN.{length, getD, take, drop};
 ghost use Rattle.words.specs.Lists.{firstBad, every, allOf};
 ghost use Rattle.net.specs.Image.{sitesIn, actionsIn};
 ghost use Rattle.format.specs.Format.{placed, stateOk};
-ghost use Rattle.format.specs.Steps.{boundBy};
+ghost use Rattle.format.specs.Steps.{inSet, boundBy};
 use crate::contents::ACTION_WIDTH;
 use crate::contents::SITE_WIDTH;
 use crate::variables::bound_too;
@@ -17,33 +17,32 @@ use net::site_at;
 use words::count_below;
 
 // The variables that n actions bind, from action `from` on.
-fn bound_by(actions: &[u8], from: usize, n: usize) -> [bool; 8]
+fn bound_by(actions: &[u8], from: usize, n: usize) -> u8
     requires { ⌜ 24 * (from + n) ≤ length (now actions) ⌝ }
     ensures { λ r. ⌜ r ≡ boundBy (take n (drop from (actionsIn (now (actions .entry))))) ⌝ }
 {
-    let mut bound = [false; 8];
+    let mut bound = 0;
     let mut j = 0;
     while j < n {
         let x = action_at(actions, ACTION_WIDTH * (from + j));
         let f = x.fields;
-        let next = bound_too(bound, x.count, f);
-        bound = next;
+        bound = bound_too(bound, x.count, f);
         j += 1;
     }
     bound
 }
 
-// Whether each variable is set exactly if it is bound.
-fn set_right(vars: [u16; 8], bound: [bool; 8]) -> bool
-    ensures { λ r. ⌜ r ≡ every (λ v. Bool·beq (not (eqb (getD vars v 0) 0)) (getD bound v false)) 8 ⌝ }
+// Whether each variable is set exactly if it is bound: variable v is in the set where its bit, bound / 2^v % 2, is 1.
+fn set_right(vars: [u16; 8], bound: u8) -> bool
+    ensures { λ r. ⌜ r ≡ every (λ v. Bool·beq (not (eqb (getD vars v 0) 0)) (inSet bound v)) 8 ⌝ }
 {
-    ((vars[0] != 0) == bound[0])
-        & (((vars[1] != 0) == bound[1])
-            & (((vars[2] != 0) == bound[2])
-                & (((vars[3] != 0) == bound[3])
-                    & (((vars[4] != 0) == bound[4])
-                        & (((vars[5] != 0) == bound[5])
-                            & (((vars[6] != 0) == bound[6]) & ((vars[7] != 0) == bound[7])))))))
+    ((vars[0] != 0) == (bound / 1 % 2 == 1))
+        & (((vars[1] != 0) == (bound / 2 % 2 == 1))
+            & (((vars[2] != 0) == (bound / 4 % 2 == 1))
+                & (((vars[3] != 0) == (bound / 8 % 2 == 1))
+                    & (((vars[4] != 0) == (bound / 16 % 2 == 1))
+                        & (((vars[5] != 0) == (bound / 32 % 2 == 1))
+                            & (((vars[6] != 0) == (bound / 64 % 2 == 1)) & ((vars[7] != 0) == (bound / 128 % 2 == 1))))))))
 }
 
 // Whether the state of a site is good whose program is the actions from..to.

@@ -4,3 +4,6 @@ pub mod Writes
 pub mod Readiness
 pub mod Acting
 pub mod Asking
+pub mod Doing
+pub mod Running
+pub mod Calls

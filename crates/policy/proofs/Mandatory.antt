@@ -97,3 +97,21 @@ mandatory-value capability terms = gathered mandatoryRules
     gathered (x ∷ l) =
         gather-never-yes (ruleGives capability terms x) (gatherAll (map (ruleGives capability terms) l))
         (rule-never-yes (eqb (x .capability) capability) (dominates (getD terms (x .left) 0) (getD terms (x .right) 0))) (gathered l)
+
+-- one rule that says no decides
+gather-zero : (p q : ℕ) → gatherOf p q ≡ 0 → (p ≡ 0) × (q ≡ 0)
+gather-zero p q e = omega arith
+
+gathered-zero : {A : Type 0} (g : A → ℕ) (l : List A) (d : A) → gatherAll (map g l) ≡ 0 → (i : ℕ) → i < length l → g (getD l i d) ≡ 0
+gathered-zero g [] d e i h = absurd (not-suc-le-zero h)
+gathered-zero g (x ∷ l) d e zero h = gather-zero (g x) (gatherAll (map g l)) e .0
+gathered-zero g (x ∷ l) d e (suc i) h = gathered-zero g l d (gather-zero (g x) (gatherAll (map g l)) e .1) i (le-of-suc-le-suc h)
+
+pub mandatory-denies : (capability : ℕ) (terms : List ℕ) (i : ℕ) → i < length mandatoryRules → (ruleGives capability terms (getD mandatoryRules i (demands 0 0 0)) ≡ 0 → ⊥)
+    → mandatory capability terms ≡ 2
+unfolding mandatory
+mandatory-denies capability terms i h e = pick (mandatory-value capability terms)
+  where
+    pick : NeverYes (gatherAll (map (ruleGives capability terms) mandatoryRules)) → gatherAll (map (ruleGives capability terms) mandatoryRules) ≡ 2
+    pick (inr q) = q
+    pick (inl q) = absurd (e (gathered-zero (ruleGives capability terms) mandatoryRules (demands 0 0 0) q i h))

@@ -12,7 +12,7 @@ ghost use Rattle.policy.specs.Match.{through};
 ghost use Rattle.policy.specs.House.{name, actOf, patternFits, traps, takes, taken};
 use crate::fields::shared;
 use crate::fields::up_to_four;
-use crate::vars::assigned;
+use crate::vars::assign;
 use net::Action;
 use net::Operand;
 use net::operand_at;
@@ -89,28 +89,26 @@ pub fn traps(
     fields_fit(aspects, at + 12, action)
 }
 
-// The variables after a pattern met its part of the action.
-fn takes(p: Operand, x: Operand, vars: [u16; 8]) -> [u16; 8]
-    ensures { λ r. ⌜ r ≡ takes p x vars ⌝ }
+// A pattern meets its part of the action: a variable takes it.
+fn takes(vars: &mut [u16; 8], p: Operand, x: Operand)
+    requires { ⌜ length (now vars) ≡ 8 ⌝ }
+    ensures { λ _. ⌜ now (vars .exit) ≡ takes p x (now (vars .entry)) ⌝ }
 {
-    assigned(vars, p.tag == 1, p.value, x.value)
+    assign(vars, p.tag == 1, p.value, x.value);
 }
 
-// The variables after `count` patterns from byte `at` on met the action's fields.
-fn fields_take(aspects: &[u8], at: usize, count: u8, action: Action, vars: [u16; 8]) -> [u16; 8]
-    requires { ⌜ at + 16 ≤ length (now aspects) ⌝ }
-    ensures { λ r. ⌜ r ≡ through takes (take count (fourOperands (now (aspects .entry)) at)) (fieldsOf action) vars ⌝ }
+// `count` patterns from byte `at` on meet the action's fields.
+fn fields_take(vars: &mut [u16; 8], aspects: &[u8], at: usize, count: u8, action: Action)
+    requires { ⌜ (at + 16 ≤ length (now aspects)) × (length (now vars) ≡ 8) ⌝ }
+    ensures { λ _. ⌜ now (vars .exit) ≡ through takes (take count (fourOperands (now (aspects .entry)) at)) (fieldsOf action) (now (vars .entry)) ⌝ }
 {
     let n = shared(count, action.count);
     let fields = action.fields;
-    let mut v = vars;
     let mut i = 0;
     while i < n {
-        let next = takes(operand_at(aspects, at + 4 * i), fields[i], v);
-        v = next;
+        takes(vars, operand_at(aspects, at + 4 * i), fields[i]);
         i += 1;
     }
-    v
 }
 
 // What the variables of the aspect's cut take from the action; the others are unset.
@@ -125,7 +123,9 @@ pub fn taken(
     requires { ⌜ (at + 32 ≤ length (now aspects)) × (source < length (now sites) / 32) × (target < length (now sites) / 32) ⌝ }
     ensures { λ r. ⌜ r ≡ taken (sitesIn (now (sites .entry))) (actOf source target action) (readAspect (now (aspects .entry)) at) ⌝ }
 {
-    let first = takes(operand_at(aspects, at + 4), named(sites, source), [0; 8]);
-    let second = takes(operand_at(aspects, at + 8), named(sites, target), first);
-    fields_take(aspects, at + 12, aspects[at + 2], action, second)
+    let mut vars = [0; 8];
+    takes(&mut vars, operand_at(aspects, at + 4), named(sites, source));
+    takes(&mut vars, operand_at(aspects, at + 8), named(sites, target));
+    fields_take(&mut vars, aspects, at + 12, aspects[at + 2], action);
+    vars
 }

@@ -3,7 +3,7 @@
 // its parent, and one of the other sort, is false or 0: no accepted table has one.
 ghost use mathlib.Core.Path.{_≡_};
 ghost use mathlib.Core.Bool.{_&&_};
-ghost use Prim.Native.Nat.{_+_, _*_, _≤_};
+ghost use Prim.Native.Nat.{_+_, _*_, _^_, _≤_, _<_};
 ghost use lib.ListN.{length, getD};
 ghost use Rattle.level.specs.Level.{dominates};
 ghost use Rattle.words.specs.Bytes.{u16At};
@@ -21,9 +21,9 @@ use words::size_at;
 use words::word;
 
 // The "equal" node at byte `node`: both operands known, and the same.
-fn equal(nodes: &[u8], node: usize, vars: [u16; 8]) -> bool
-    requires { ⌜ node + 24 ≤ length (now nodes) ⌝ }
-    ensures { λ r. ⌜ r ≡ known (meant vars (getD (fourOperands (now (nodes .entry)) (node + 8)) 0 (name 0))) (meant vars (getD (fourOperands (now (nodes .entry)) (node + 8)) 1 (name 0))) ⌝ }
+fn equal(nodes: &[u8], node: usize, vars: &[u16; 8]) -> bool
+    requires { ⌜ (node + 24 ≤ length (now nodes)) × (length (now vars) ≡ 8) ⌝ }
+    ensures { λ r. ⌜ r ≡ known (meant (now (vars .entry)) (getD (fourOperands (now (nodes .entry)) (node + 8)) 0 (name 0))) (meant (now (vars .entry)) (getD (fourOperands (now (nodes .entry)) (node + 8)) 1 (name 0))) ⌝ }
 {
     known(
         meant(operand_at(nodes, node + 8), vars),
@@ -32,9 +32,9 @@ fn equal(nodes: &[u8], node: usize, vars: [u16; 8]) -> bool
 }
 
 // The "dominates" node at byte `node`: of its two terms.
-fn outranks(nodes: &[u8], node: usize, terms: [u16; 8]) -> bool
-    requires { ⌜ node + 24 ≤ length (now nodes) ⌝ }
-    ensures { λ r. ⌜ r ≡ dominates (getD terms (u16At (now (nodes .entry)) (node + 2)) 0) (getD terms (u16At (now (nodes .entry)) (node + 4)) 0) ⌝ }
+fn outranks(nodes: &[u8], node: usize, terms: &[u16; 8]) -> bool
+    requires { ⌜ (node + 24 ≤ length (now nodes)) × (length (now terms) ≡ 8) ⌝ }
+    ensures { λ r. ⌜ r ≡ dominates (getD (now (terms .entry)) (u16At (now (nodes .entry)) (node + 2)) 0) (getD (now (terms .entry)) (u16At (now (nodes .entry)) (node + 4)) 0) ⌝ }
 {
     let x = Level {
         code: element(terms, word(nodes, node + 2)),
@@ -48,39 +48,40 @@ fn outranks(nodes: &[u8], node: usize, terms: [u16; 8]) -> bool
 pub fn holds(
     n: usize,
     top: usize,
-    nodes: &[u8],
-    sites: &[u8],
-    rows: &[u8],
-    terms: [u16; 8],
-    vars: [u16; 8],
+    nodes: &&[u8],
+    sites: &&[u8],
+    rows: &&[u8],
+    terms: &[u16; 8],
+    vars: &[u16; 8],
 ) -> bool
-    requires { ⌜ (24 * top ≤ length (now nodes)) × Ordered 10 (now rows) ⌝ }
-    ensures { λ r. ⌜ r ≡ yes (getD (rowOf (ask (sitesIn (now (sites .entry))) (rowsIn (now (rows .entry))) terms vars) (nodesIn (now (nodes .entry))) top) n 0) ⌝ }
+    requires { ⌜ (24 * top ≤ length (now (now nodes))) × (24 * top < 2 ^ 64) × (length (now terms) ≡ 8) × (length (now vars) ≡ 8) × Ordered 10 (now (now rows)) ⌝ }
+    ensures { λ r. ⌜ r ≡ yes (getD (rowOf (ask (sitesIn (now (now (sites .entry)))) (rowsIn (now (now (rows .entry)))) (now (terms .entry)) (now (vars .entry))) (nodesIn (now (now (nodes .entry)))) top) n 0) ⌝ }
 {
     if top <= n {
         return false;
     }
     let at = 24 * n;
-    let kind = nodes[at];
+    let table = *nodes;
+    let kind = table[at];
     match kind {
         1 => true,
-        2 => !holds(size_at(nodes, at + 2), n, nodes, sites, rows, terms, vars),
+        2 => !holds(size_at(table, at + 2), n, nodes, sites, rows, terms, vars),
         3 => {
-            if !holds(size_at(nodes, at + 2), n, nodes, sites, rows, terms, vars) {
+            if !holds(size_at(table, at + 2), n, nodes, sites, rows, terms, vars) {
                 return false;
             }
-            holds(size_at(nodes, at + 4), n, nodes, sites, rows, terms, vars)
+            holds(size_at(table, at + 4), n, nodes, sites, rows, terms, vars)
         }
         4 => {
-            if holds(size_at(nodes, at + 2), n, nodes, sites, rows, terms, vars) {
+            if holds(size_at(table, at + 2), n, nodes, sites, rows, terms, vars) {
                 return true;
             }
-            holds(size_at(nodes, at + 4), n, nodes, sites, rows, terms, vars)
+            holds(size_at(table, at + 4), n, nodes, sites, rows, terms, vars)
         }
-        5 => equal(nodes, at, vars),
-        6 => test(nodes, at, sites, rows, vars),
-        7 => outranks(nodes, at, terms),
-        8 => belnap::grants(advises(size_at(nodes, at + 2), n, nodes, sites, rows, terms, vars)),
+        5 => equal(table, at, vars),
+        6 => test(table, at, *sites, *rows, vars),
+        7 => outranks(table, at, terms),
+        8 => belnap::grants(advises(size_at(table, at + 2), n, nodes, sites, rows, terms, vars)),
         _ => false,
     }
 }
@@ -89,29 +90,30 @@ pub fn holds(
 pub fn advises(
     n: usize,
     top: usize,
-    nodes: &[u8],
-    sites: &[u8],
-    rows: &[u8],
-    terms: [u16; 8],
-    vars: [u16; 8],
+    nodes: &&[u8],
+    sites: &&[u8],
+    rows: &&[u8],
+    terms: &[u16; 8],
+    vars: &[u16; 8],
 ) -> u8
-    requires { ⌜ (24 * top ≤ length (now nodes)) × Ordered 10 (now rows) ⌝ }
-    ensures { λ r. ⌜ r ≡ advice (getD (rowOf (ask (sitesIn (now (sites .entry))) (rowsIn (now (rows .entry))) terms vars) (nodesIn (now (nodes .entry))) top) n 0) ⌝ }
+    requires { ⌜ (24 * top ≤ length (now (now nodes))) × (24 * top < 2 ^ 64) × (length (now terms) ≡ 8) × (length (now vars) ≡ 8) × Ordered 10 (now (now rows)) ⌝ }
+    ensures { λ r. ⌜ r ≡ advice (getD (rowOf (ask (sitesIn (now (now (sites .entry)))) (rowsIn (now (now (rows .entry)))) (now (terms .entry)) (now (vars .entry))) (nodesIn (now (now (nodes .entry)))) top) n 0) ⌝ }
 {
     if top <= n {
         return 0;
     }
     let at = 24 * n;
-    let kind = nodes[at];
+    let table = *nodes;
+    let kind = table[at];
     match kind {
-        16 => (word(nodes, at + 2) % 4) as u8,
+        16 => (word(table, at + 2) % 4) as u8,
         17 => {
-            if holds(size_at(nodes, at + 2), n, nodes, sites, rows, terms, vars) {
+            if holds(size_at(table, at + 2), n, nodes, sites, rows, terms, vars) {
                 return 1;
             }
             2
         }
-        18 => belnap::not(advises(size_at(nodes, at + 2), n, nodes, sites, rows, terms, vars)),
+        18 => belnap::not(advises(size_at(table, at + 2), n, nodes, sites, rows, terms, vars)),
         _ => {
             if kind < 19 {
                 return 0;
@@ -119,8 +121,8 @@ pub fn advises(
             if 24 < kind {
                 return 0;
             }
-            let p = advises(size_at(nodes, at + 2), n, nodes, sites, rows, terms, vars);
-            let q = advises(size_at(nodes, at + 4), n, nodes, sites, rows, terms, vars);
+            let p = advises(size_at(table, at + 2), n, nodes, sites, rows, terms, vars);
+            let q = advises(size_at(table, at + 4), n, nodes, sites, rows, terms, vars);
             belnap::operate(kind - 19, p, q)
         }
     }

@@ -5,7 +5,7 @@ ghost use Prim.Native.Nat.{_<_, _≤_, min};
 ghost use lib.Dec.{eqb};
 ghost use Rattle.net.specs.Net.{isBinding, fieldsOf, valuesOf};
 ghost use Rattle.policy.specs.Match.{fits, bound};
-use crate::vars::assigned;
+use crate::vars::assign;
 use net::Action;
 use net::Operand;
 use net::Row;
@@ -62,8 +62,7 @@ pub fn bound(action: Action, row: Row, vars: [u16; 8]) -> [u16; 8]
     let mut i = 0;
     while i < n {
         let x = fields[i];
-        let next = assigned(v, x.tag == 2, x.value, values[i]);
-        v = next;
+        assign(&mut v, x.tag == 2, x.value, values[i]);
         i += 1;
     }
     v

@@ -25,10 +25,10 @@ fn gives(
     source: usize,
     target: usize,
     action: Action,
-    terms: [u16; 8],
+    terms: &[u16; 8],
 ) -> u8
     requires { ⌜ (at + 32 ≤ length (now aspects)) × (source < length (now sites) / 32) × (target < length (now sites) / 32) ⌝ }
-    requires { ⌜ (terms ≡ termsIn (sitesIn (now sites)) (actOf source target action)) × Ordered 10 (now rows) ⌝ }
+    requires { ⌜ (now terms ≡ termsIn (sitesIn (now sites)) (actOf source target action)) × Ordered 10 (now rows) ⌝ }
     ensures { λ r. ⌜ (r ≡ gives (nodesIn (now (nodes .entry))) (sitesIn (now (sites .entry))) (rowsIn (now (rows .entry))) (actOf source target action) (readAspect (now (aspects .entry)) at)) × (r < 4) ⌝ }
 {
     if !traps(aspects, at, sites, source, target, action) {
@@ -39,22 +39,22 @@ fn gives(
     if !holds(
         size_at(aspects, at + 28),
         top,
-        nodes,
-        sites,
-        rows,
+        &nodes,
+        &sites,
+        &rows,
         terms,
-        vars,
+        &vars,
     ) {
         return 0;
     }
     advises(
         size_at(aspects, at + 30),
         top,
-        nodes,
-        sites,
-        rows,
+        &nodes,
+        &sites,
+        &rows,
         terms,
-        vars,
+        &vars,
     )
 }
 
@@ -68,10 +68,10 @@ pub fn policy(
     source: usize,
     target: usize,
     action: Action,
-    terms: [u16; 8],
+    terms: &[u16; 8],
 ) -> u8
     requires { ⌜ (site + 1 < 2 ^ 64) × (source < length (now sites) / 32) × (target < length (now sites) / 32) ⌝ }
-    requires { ⌜ (terms ≡ termsIn (sitesIn (now sites)) (actOf source target action)) × Ordered 32 (now aspects) × Ordered 10 (now rows) ⌝ }
+    requires { ⌜ (now terms ≡ termsIn (sitesIn (now sites)) (actOf source target action)) × Ordered 32 (now aspects) × Ordered 10 (now rows) ⌝ }
     ensures { λ r. ⌜ (r ≡ policy (nodesIn (now (nodes .entry))) (sitesIn (now (sites .entry))) (rowsIn (now (rows .entry))) (actOf source target action) site (aspectsIn (now (aspects .entry)))) × (r < 4) ⌝ }
 {
     let own = group(aspects, 32, site);

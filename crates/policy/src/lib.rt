@@ -38,7 +38,7 @@ pub fn judge(
     ensures { λ r. ⌜ (r ≡ judge (rulesOf (nodesIn (now (nodes .entry))) (aspectsIn (now (aspects .entry)))) (sitesIn (now (sites .entry))) (rowsIn (now (rows .entry))) (actOf source target action)) × (r < 4) ⌝ }
 {
     let levels = terms(site_at(sites, 32 * source), site_at(sites, 32 * target));
-    let ruled = mandatory(action.capability, levels);
+    let ruled = mandatory(action.capability, &levels);
     let from = policy(
         source,
         aspects,
@@ -48,7 +48,7 @@ pub fn judge(
         source,
         target,
         action,
-        levels,
+        &levels,
     );
     let value = belnap::gather(ruled, from);
     if source == target {
@@ -63,7 +63,7 @@ pub fn judge(
         source,
         target,
         action,
-        levels,
+        &levels,
     );
     belnap::gather(value, to)
 }

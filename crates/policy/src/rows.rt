@@ -18,8 +18,9 @@ use words::Found;
 use words::word;
 
 // Whether an operand of a test fits a row's value: "any", or a known value and the same one.
-fn asks(p: Operand, value: u16, vars: [u16; 8]) -> bool
-    ensures { λ r. ⌜ r ≡ asks vars p value ⌝ }
+fn asks(p: Operand, value: u16, vars: &[u16; 8]) -> bool
+    requires { ⌜ length (now vars) ≡ 8 ⌝ }
+    ensures { λ r. ⌜ r ≡ asks (now (vars .entry)) p value ⌝ }
 {
     if p.tag == 3 {
         return true;
@@ -28,9 +29,9 @@ fn asks(p: Operand, value: u16, vars: [u16; 8]) -> bool
 }
 
 // Whether the row at byte `at` of the rows is wanted by the test node at byte `node`: it has the count, and each value fits.
-fn wanted(rows: &[u8], at: usize, nodes: &[u8], node: usize, vars: [u16; 8]) -> bool
-    requires { ⌜ (at + 10 ≤ length (now rows)) × (node + 24 ≤ length (now nodes)) ⌝ }
-    ensures { λ r. ⌜ r ≡ wanted vars (readNode (now (nodes .entry)) node) (readRow (now (rows .entry)) at) ⌝ }
+fn wanted(rows: &[u8], at: usize, nodes: &[u8], node: usize, vars: &[u16; 8]) -> bool
+    requires { ⌜ (at + 10 ≤ length (now rows)) × (node + 24 ≤ length (now nodes)) × (length (now vars) ≡ 8) ⌝ }
+    ensures { λ r. ⌜ r ≡ wanted (now (vars .entry)) (readNode (now (nodes .entry)) node) (readRow (now (rows .entry)) at) ⌝ }
 {
     let count = nodes[node + 1];
     if rows[at + 1] != count {
@@ -58,10 +59,10 @@ fn sought(
     count: usize,
     nodes: &[u8],
     node: usize,
-    vars: [u16; 8],
+    vars: &[u16; 8],
 ) -> bool
-    requires { ⌜ (first + count ≤ length (now rows) / 10) × (node + 24 ≤ length (now nodes)) ⌝ }
-    ensures { λ r. ⌜ r ≡ some (wanted vars (readNode (now (nodes .entry)) node)) (take count (drop first (rowsIn (now (rows .entry))))) ⌝ }
+    requires { ⌜ (first + count ≤ length (now rows) / 10) × (node + 24 ≤ length (now nodes)) × (length (now vars) ≡ 8) ⌝ }
+    ensures { λ r. ⌜ r ≡ some (wanted (now (vars .entry)) (readNode (now (nodes .entry)) node)) (take count (drop first (rowsIn (now (rows .entry))))) ⌝ }
 {
     let mut i = 0;
     while i < count {
@@ -74,9 +75,9 @@ fn sought(
 }
 
 // The test node at byte `node`: whether some row at the named place is wanted.
-pub fn test(nodes: &[u8], node: usize, sites: &[u8], rows: &[u8], vars: [u16; 8]) -> bool
-    requires { ⌜ (node + 24 ≤ length (now nodes)) × Ordered 10 (now rows) ⌝ }
-    ensures { λ r. ⌜ r ≡ testOf (sitesIn (now (sites .entry))) (rowsIn (now (rows .entry))) vars (readNode (now (nodes .entry)) node) ⌝ }
+pub fn test(nodes: &[u8], node: usize, sites: &[u8], rows: &[u8], vars: &[u16; 8]) -> bool
+    requires { ⌜ (node + 24 ≤ length (now nodes)) × (length (now vars) ≡ 8) × Ordered 10 (now rows) ⌝ }
+    ensures { λ r. ⌜ r ≡ testOf (sitesIn (now (sites .entry))) (rowsIn (now (rows .entry))) (now (vars .entry)) (readNode (now (nodes .entry)) node) ⌝ }
 {
     let Found::At(place) = place_of(sites, word(nodes, node + 2)) else {
         return false;

@@ -66,9 +66,9 @@ pub fn terms(x: Site, y: Site) -> [u16; 8]
 }
 
 // What one rule gives: 2 where the left does not dominate the right, else 0.
-fn rule_gives(rule: Rule, capability: u8, terms: [u16; 8]) -> u8
+fn rule_gives(rule: Rule, capability: u8, terms: &[u16; 8]) -> u8
     requires { ⌜ (rule .left < 8) × (rule .right < 8) ⌝ }
-    ensures { λ r. ⌜ (r ≡ ruleGives capability terms rule) × (r < 4) ⌝ }
+    ensures { λ r. ⌜ r ≡ ruleGives capability (now (terms .entry)) rule ⌝ }
 {
     if rule.capability != capability {
         return 0;
@@ -83,16 +83,17 @@ fn rule_gives(rule: Rule, capability: u8, terms: [u16; 8]) -> u8
     }
 }
 
-// What the mandatory rules give an action of this capability, gathered.
-pub fn mandatory(capability: u8, terms: [u16; 8]) -> u8
-    ensures { λ r. ⌜ (r ≡ mandatory capability terms) × (r < 4) ⌝ }
+// What the mandatory rules give an action of this capability, gathered: the first 2 decides, since the others are 0 or 2.
+pub fn mandatory(capability: u8, terms: &[u16; 8]) -> u8
+    ensures { λ r. ⌜ (r ≡ mandatory capability (now (terms .entry))) × (r < 4) ⌝ }
 {
     let rules = RULES;
-    let mut value = 0;
     let mut i = 0;
     while i < COUNT {
-        value = belnap::gather(value, rule_gives(rules[i], capability, terms));
+        if rule_gives(rules[i], capability, terms) != 0 {
+            return 2;
+        }
         i += 1;
     }
-    value
+    0
 }

@@ -1,3 +1,11 @@
+-- `monitor::asked` meets its contract: the image at the front of memory is what it holds. Assumes nothing.
+use denote.Ref.{now}
+use mathlib.Core.Path.{ap, _∙_}
+use mathlib.Core.List.{List}
+use Prim.Native.Nat.{ℕ}
+use Rattle.net.specs.Image.{rulesIn, stateIn}
+use Rattle.stepping.specs.Step.{asking}
+use Rattle.monitor.proofs.Holding.{holds-parts}
 use borrow.Author.Needs.{needs}
 use Rattle.monitor.proofs.asked.Statement.{statement}
 use Rattle.monitor.proofs.asked.Tie as tie
@@ -12,11 +20,11 @@ image-of-requires c κs = search needs
 
 -- src/lib.rt:111:5
 ask-requires : tie.Need-ask-requires
-ask-requires c κs = ?
+ask-requires c κs = let s = c .before .before in rw (c .image-of .ensures) (holds-parts (now (s .args .memory)) (s .pre) .accepted)
 
 -- src/lib.rt:106:1
 returns : tie.Need-returns
-returns c = ?
+returns c = let s = c .before .before .before in c .ask .ensures ∙ ap (λ (b : List ℕ). asking (rulesIn b) (stateIn b) (s .args .site)) (c .before .image-of .ensures)
 
 pub asked-spec : {M : Type 1} → statement M
 asked-spec = tie.close (tie.spec image-of-requires ask-requires returns)

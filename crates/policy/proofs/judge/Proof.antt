@@ -22,19 +22,20 @@ levels c =
 
 policy-requires : tie.Need-policy-requires
 policy-requires c κs =
-    let s = c .before .before .before .before .before .before .before .before in
-    ((omega arith, s .pre .0, s .pre .1), (levels (c .before), s .pre .2, s .pre .3))
+    let t = c .before .before .before in
+    let s = t .before .before .before .before .before .before .before in
+    ((omega arith, s .pre .0, s .pre .1), (levels t, s .pre .2, s .pre .3))
 
 policy-requires-2 : tie.Need-policy-requires-2
 policy-requires-2 c κs =
-    let m = c .before .before .before in
-    let s = m .before .before .before .before .before .before .before .before in
-    ((omega arith, s .pre .0, s .pre .1), (levels (m .before), s .pre .2, s .pre .3))
+    let t = c .before .before .before .before .before .before .before in
+    let s = t .before .before .before .before .before .before .before in
+    ((omega arith, s .pre .0, s .pre .1), (levels t, s .pre .2, s .pre .3))
 
 -- the mandatory rules and the source's policy have been gathered
 module _ (c : tie.After-gather) where
   abbrev start : tie.Start
-  start = c .before .before .before .before .before .before .before .before .before .before
+  start = c .before .before .before .before .before .before .before .before .before .before .before .before
 
   abbrev bodies : Rules
   bodies = rulesOf (nodesIn (now (start .args .nodes))) (aspectsIn (now (start .args .aspects)))
@@ -42,8 +43,8 @@ module _ (c : tie.After-gather) where
   abbrev act : Act
   act = actOf (start .args .source) (start .args .target) (start .args .action)
 
-  ruled : c .before .before .mandatory .result ≡ mandatory (start .args .action .capability) (termsIn (sitesIn (now (start .args .sites))) act)
-  ruled = c .before .before .mandatory .ensures .0 ∙ ap (mandatory (start .args .action .capability)) (levels (c .before .before .before))
+  ruled : c .before .before .before .mandatory .result ≡ mandatory (start .args .action .capability) (termsIn (sitesIn (now (start .args .sites))) act)
+  ruled = c .before .before .before .mandatory .ensures .0 ∙ ap (mandatory (start .args .action .capability)) (levels (c .before .before .before .before .before))
 
 returns : tie.Need-returns
 returns c =
@@ -53,7 +54,7 @@ returns c =
 
 returns-2 : tie.Need-returns-2
 returns-2 c =
-    let g = c .before .before .before in
+    let g = c .before .before .before .before in
     let a = start g .args in
     (judge-two (bodies g) (sitesIn (now (a .sites))) (rowsIn (now (a .rows))) (act g) (ruled g) (g .before .policy .ensures .0) (g .gather .ensures .0) (c .before .policy2 .ensures .0) (c .gather2 .ensures .0), c .gather2 .ensures .1)
 

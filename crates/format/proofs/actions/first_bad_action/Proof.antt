@@ -6,6 +6,7 @@ use mathlib.Core.List.{List, []}
 use Prim.Native.Nat.{ℕ, _+_, _*_, _/_, _-_, _≤_, _<_}
 use native.Mathlib.Omega.{arith}
 use borrow.Author.Needs.{needs}
+use lib.Bits.{bitOr}
 use lib.Dec.{eqb}
 use lib.ListN.{length, getD}
 use Rattle.words.specs.Lists.{before, allOf}
@@ -19,13 +20,12 @@ use Rattle.net.specs.declared.Action.{Action}
 use Rattle.rulebook.specs.Parts.{ownersIn, ownerOk, roomOk}
 use Rattle.rulebook.proofs.Owners.{owners-of}
 use Rattle.format.specs.Format.{actionOk}
-use Rattle.format.specs.Steps.{boundBy, boundToo, formRules}
+use Rattle.format.specs.Steps.{setOf, formRules}
 use Rattle.format.proofs.Earlier.{Earlier, owners, rules-with, in-order, bound-now, earlier-more, earlier-none}
-use Rattle.format.proofs.Programs.{bound-none}
 use Rattle.format.proofs.actions.first_bad_action.Statement.{statement}
 use Rattle.format.proofs.actions.first_bad_action.Tie as tie
 
-module _ (s : List ℕ) (sites k last : ℕ) (bound : List Bool) (e : Earlier sites (actionsIn s) k last bound) (h : k < length s / actionWidth) where
+module _ (s : List ℕ) (sites k last bound : ℕ) (e : Earlier sites (actionsIn s) k last bound) (h : k < length s / actionWidth) where
   owners-are : owners (actionsIn s) ≡ ownersIn actionWidth s
   unfolding readAction
   owners-are = owners-of (λ x. x .owner) readAction actionWidth s (λ i. refl)
@@ -37,7 +37,7 @@ module _ (s : List ℕ) (sites k last : ℕ) (bound : List Bool) (e : Earlier si
   ordered j b = rw (← owners-are) (in-order sites (actionsIn s) k last bound e j b)
 
   -- what was tested of action k is its rule
-  tested : {x : Action} {b : List Bool} {r : Bool} → x ≡ readAction s (actionWidth * k) → b ≡ cond (eqb (x .owner) last) bound (boundBy [])
+  tested : {x : Action} {b : ℕ} {r : Bool} → x ≡ readAction s (actionWidth * k) → b ≡ cond (eqb (x .owner) last) bound 0
       → r ≡ ((ownerOk sites (ownersIn actionWidth s) k && roomOk programLimit (ownersIn actionWidth s) k) && allOf (formRules b x))
       → r ≡ actionOk sites (actionsIn s) k
   tested p q g =
@@ -45,8 +45,8 @@ module _ (s : List ℕ) (sites k last : ℕ) (bound : List Bool) (e : Earlier si
       (rules-with sites (actionsIn s) k _ (bound-now sites (actionsIn s) k last bound e inside))
 
   -- and one action more
-  next : {x : Action} {b after : List Bool} → actionOk sites (actionsIn s) k ≡ true → x ≡ readAction s (actionWidth * k)
-      → b ≡ cond (eqb (x .owner) last) bound (boundBy []) → after ≡ boundToo b (fieldsOf x) → Earlier sites (actionsIn s) (k + 1) (x .owner) after
+  next : {x : Action} {b after : ℕ} → actionOk sites (actionsIn s) k ≡ true → x ≡ readAction s (actionWidth * k)
+      → b ≡ cond (eqb (x .owner) last) bound 0 → after ≡ bitOr b (setOf 2 (fieldsOf x)) → Earlier sites (actionsIn s) (k + 1) (x .owner) after
   next {x} {b} {after} ok p q g =
       let i : x ≡ getD (actionsIn s) k noAction = p ∙ sym (table-at readAction actionWidth s k noAction h) in
       rw i (earlier-more sites (actionsIn s) k last bound e inside ok (g ∙ rw (q, i)))
@@ -58,7 +58,7 @@ abbrev μ-loop : tie.MeasureT-loop
 μ-loop actions sites n bound₀ last₀ k₀ bound last k = n - k
 
 loop-holds : tie.Need-loop-holds Inv-loop μ-loop
-loop-holds c = (omega arith, rw (← bound-none) (earlier-none _ _))
+loop-holds c = (omega arith, earlier-none _ _)
 
 action-ok-requires : tie.Need-action-ok-requires Inv-loop μ-loop
 action-ok-requires c κs =

@@ -1,11 +1,11 @@
 -- `format::states::bound_by` meets its contract: after j actions the set has what these bind. Assumes nothing.
 use denote.Ref.{now}
 use mathlib.Core.Path.{_≡_, sym, _∙_}
-use mathlib.Core.Bool.{Bool}
 use mathlib.Core.List.{List}
 use Prim.Native.Nat.{ℕ, _+_, _*_, _/_, _-_, _≤_, _<_}
 use native.Mathlib.Omega.{arith}
 use borrow.Author.Needs.{needs}
+use lib.Bits.{bitOr}
 use lib.ListN.{length, getD, take, drop, length-drop}
 use lib.Seq.{getD-drop}
 use Rattle.words.proofs.Tables.{table-length, table-at}
@@ -13,7 +13,7 @@ use Rattle.net.specs.Records.{actionWidth, noAction, readAction}
 use Rattle.net.specs.Net.{fieldsOf}
 use Rattle.net.specs.Image.{actionsIn}
 use Rattle.net.specs.declared.Action.{Action}
-use Rattle.format.specs.Steps.{boundBy, boundToo}
+use Rattle.format.specs.Steps.{setOf, boundBy}
 use Rattle.format.proofs.Programs.{bound-none, bound-next}
 use Rattle.format.proofs.states.bound_by.Statement.{statement}
 use Rattle.format.proofs.states.bound_by.Tie as tie
@@ -26,12 +26,12 @@ module _ (s : List ℕ) (from j : ℕ) (h : actionWidth * (from + j) + actionWid
   action-is : getD (drop from (actionsIn s)) j noAction ≡ readAction s (actionWidth * (from + j))
   action-is = getD-drop from (actionsIn s) j noAction ∙ table-at readAction actionWidth s (from + j) noAction within
 
-  next : {bound after : List Bool} {x : Action} → bound ≡ boundBy (take j (drop from (actionsIn s))) → x ≡ readAction s (actionWidth * (from + j))
-      → after ≡ boundToo bound (fieldsOf x) → after ≡ boundBy (take (j + 1) (drop from (actionsIn s)))
+  next : {bound after : ℕ} {x : Action} → bound ≡ boundBy (take j (drop from (actionsIn s))) → x ≡ readAction s (actionWidth * (from + j))
+      → after ≡ bitOr bound (setOf 2 (fieldsOf x)) → after ≡ boundBy (take (j + 1) (drop from (actionsIn s)))
   next p q r =
       let b = within in
       let k : j < length (drop from (actionsIn s)) = simp (length-drop, table-length) (omega arith) in
-      r ∙ rw (p, q, ← action-is) (sym (bound-next (drop from (actionsIn s)) j noAction k))
+      r ∙ rw (p, q, ← action-is) (bound-next (drop from (actionsIn s)) j noAction k)
 
 abbrev Inv-loop : tie.InvT-loop
 Inv-loop actions from n bound₀ j₀ bound j = (j ≤ n) × (bound ≡ boundBy (take j (drop from (actionsIn actions))))

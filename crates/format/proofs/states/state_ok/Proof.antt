@@ -15,19 +15,18 @@ use Rattle.net.specs.Records.{actionWidth}
 use Rattle.net.specs.Image.{actionsIn}
 use Rattle.net.specs.declared.Action.{Action}
 use Rattle.format.specs.Format.{binds, placed}
-use Rattle.format.specs.Steps.{boundBy}
-use Rattle.format.proofs.Eight.{every-eight}
+use Rattle.format.specs.Steps.{inSet, boundBy}
+use Rattle.format.proofs.Order.{first-same}
+use Rattle.format.proofs.Programs.{in-bound}
 use borrow.Author.Needs.{needs}
 use Rattle.format.proofs.states.state_ok.Statement.{statement}
 use Rattle.format.proofs.states.state_ok.Tie as tie
 
 -- each variable is set exactly if it is in the set of those bound
 rightly : (vars : List ℕ) (q : List Action)
-    → every (λ v. Bool·beq (not (eqb (getD vars v 0) 0)) (getD (boundBy q) v false)) 8 ≡ every (λ v. Bool·beq (not (eqb (getD vars v 0) 0)) (binds q v)) 8
-unfolding boundBy
+    → every (λ v. Bool·beq (not (eqb (getD vars v 0) 0)) (inSet (boundBy q) v)) 8 ≡ every (λ v. Bool·beq (not (eqb (getD vars v 0) 0)) (binds q v)) 8
 rightly vars q =
-    sym (every-eight (λ v. Bool·beq (not (eqb (getD vars v 0) 0)) (getD (boundBy q) v false)))
-    ∙ every-eight (λ v. Bool·beq (not (eqb (getD vars v 0) 0)) (binds q v))
+    ap (λ (n : ℕ). eqb n 8) (first-same _ (λ v. Bool·beq (not (eqb (getD vars v 0) 0)) (binds q v)) 8 (λ v h. ap (Bool·beq (not (eqb (getD vars v 0) 0))) (in-bound q v h)))
 
 module _ (s : List ℕ) (from to position : ℕ) (vars : List ℕ) (a : from ≤ to) (b : actionWidth * to ≤ length s) where
   abbrev program : List Action
@@ -39,8 +38,8 @@ module _ (s : List ℕ) (from to position : ℕ) (vars : List ℕ) (a : from ≤
   past : to - from < position → false ≡ allOf (placed program position vars)
   past h = rw (program-length, lt-leb position (to - from) h)
 
-  inside : position ≤ to - from → {bound : List Bool} {r : Bool} → bound ≡ boundBy (take position (drop from (actionsIn s)))
-      → r ≡ every (λ v. Bool·beq (not (eqb (getD vars v 0) 0)) (getD bound v false)) 8 → r ≡ allOf (placed program position vars)
+  inside : position ≤ to - from → {bound : ℕ} {r : Bool} → bound ≡ boundBy (take position (drop from (actionsIn s)))
+      → r ≡ every (λ v. Bool·beq (not (eqb (getD vars v 0) 0)) (inSet bound v)) 8 → r ≡ allOf (placed program position vars)
   inside h e f = rw (program-length, le-leb position (to - from) h) (f ∙ rw e (rightly vars (take position (drop from (actionsIn s)))
       ∙ ap (λ (q : List Action). every (λ v. Bool·beq (not (eqb (getD vars v 0) 0)) (binds q v)) 8) (sym (take-take position (to - from) (drop from (actionsIn s)) h))))
 

@@ -6,7 +6,7 @@ use Rattle.policy.proofs.cut.takes.Tie as tie
 
 returns : tie.Need-returns
 unfolding takes
-returns c = c .assigned .ensures
+returns c = c .assign .ensures
 
 pub takes-spec : {M : Type 1} → statement M
 takes-spec = tie.close (tie.spec (λ c κs. search needs) returns)

@@ -3,17 +3,18 @@
 use denote.Ref.{now}
 use mathlib.Core.Path.{_≡_, refl, sym, ap, _∙_}
 use mathlib.Core.Bool.{Bool, not}
-use Prim.Native.Nat.{ℕ, _*_, _<_, _≤_}
+use Prim.Native.Nat.{ℕ, _*_, _^_, _<_, _≤_}
 use native.Mathlib.Omega.{arith}
 use borrow.Author.Needs.{needs}
 use borrow.Author.Tests.{lt-ltb, le-ltb, ne-eqb}
 use borrow.Fn.Kinds.{In}
 use borrow.Fn.PlainCycle.{Measures, is, falls, and}
-use lib.ListN.{getD}
+use lib.ListN.{length, getD}
 use lib.Dec.{lit<}
 use Rattle.words.proofs.Truth.{so, fails, holds as kept}
 use Rattle.net.specs.Records.{fourOperands, readNode}
 use Rattle.net.specs.Image.{sitesIn, nodesIn, rowsIn}
+use Rattle.policy.specs.Owners.{Ordered}
 use Rattle.policy.specs.House.{Ask, ask, yes, advice, testOf, wanted, conditionOf, adviceOf, rowOf}
 use Rattle.policy.proofs.Values.{yes-past, yes-here, yes-else, advice-past, advice-here, advice-else, advice-beyond}
 use Rattle.policy.proofs.eval.advises.Reads as advises
@@ -33,28 +34,28 @@ use Rattle.words.proofs.word.Reads as word
 use Rattle.policy.proofs.eval.+advises+holds.{statement}
 use Rattle.policy.proofs.eval.+advises+holds.Tie.{close}
 
-abbrev μ-advises : Measures 3 advises-kinds.ps ℕ
+abbrev μ-advises : Measures 8 advises-kinds.ps ℕ
 μ-advises κs a = a .1 .0
 
-abbrev μ-holds : Measures 3 holds-kinds.ps ℕ
+abbrev μ-holds : Measures 8 holds-kinds.ps ℕ
 μ-holds κs a = a .1 .0
 
--- a child is below its node's top, and its record is there
-lower : {n top t size : ℕ} → n < top → top ≡ t → 24 * top ≤ size → (n < t) × (24 * n ≤ size)
-lower h e l = omega arith
+-- what is asked of a node below top is asked of its children, below the node: its record is there
+lower : {n top t size : ℕ} → n < top → top ≡ t → 24 * top ≤ size → 24 * top < 2 ^ 64 → (n < t) × (24 * n ≤ size) × (24 * n < 2 ^ 64)
+lower h e l w = omega arith
 
 module _ (t : ℕ) where
-  abbrev advises-at : In 3 advises-kinds.ps
-  advises-at = and 3 advises-kinds.ps (is 3 advises-kinds.ps μ-advises t) advises.Pre
+  abbrev advises-at : In 8 advises-kinds.ps
+  advises-at = and 8 advises-kinds.ps (is 8 advises-kinds.ps μ-advises t) advises.Pre
 
-  abbrev advises-below : In 3 advises-kinds.ps
-  advises-below = and 3 advises-kinds.ps (falls 3 advises-kinds.ps _<_ μ-advises t) advises.Pre
+  abbrev advises-below : In 8 advises-kinds.ps
+  advises-below = and 8 advises-kinds.ps (falls 8 advises-kinds.ps _<_ μ-advises t) advises.Pre
 
-  abbrev holds-at : In 3 holds-kinds.ps
-  holds-at = and 3 holds-kinds.ps (is 3 holds-kinds.ps μ-holds t) holds.Pre
+  abbrev holds-at : In 8 holds-kinds.ps
+  holds-at = and 8 holds-kinds.ps (is 8 holds-kinds.ps μ-holds t) holds.Pre
 
-  abbrev holds-below : In 3 holds-kinds.ps
-  holds-below = and 3 holds-kinds.ps (falls 3 holds-kinds.ps _<_ μ-holds t) holds.Pre
+  abbrev holds-below : In 8 holds-kinds.ps
+  holds-below = and 8 holds-kinds.ps (falls 8 holds-kinds.ps _<_ μ-holds t) holds.Pre
 
   abbrev advises-claims : advises-lts.Claims
   advises-claims = (word.Asked, word.Learnt, size-at.Asked, size-at.Learnt, holds-below, holds.Post, advises-below, advises.Post, not-reads.Asked, not-reads.Learnt, operate.Asked, operate.Learnt)
@@ -63,57 +64,49 @@ module _ (t : ℕ) where
   holds-claims = (size-at.Asked, size-at.Learnt, holds-below, holds.Post, equal.Asked, equal.Learnt, test.Asked, test.Learnt, outranks.Asked, outranks.Learnt, advises-below, advises.Post, grants.Asked, grants.Learnt)
 
   -- where `advises` has its node's kind
-  module _ (k : advises-lts.After-shared-slice-known4 advises-claims advises-at advises.Post) where
+  module _ (k : advises-lts.After-shared-slice-known advises-claims advises-at advises.Post) where
     abbrev a-start : advises-lts.Start advises-claims advises-at advises.Post
-    a-start = k .before .before .before .before .before
+    a-start = k .before .before .before
 
     abbrev a-ask : Ask
-    a-ask = let a = a-start .args in ask (sitesIn (now (a .sites))) (rowsIn (now (a .rows))) (a .terms) (a .vars)
+    a-ask = let a = a-start .args in ask (sitesIn (now (now (a .sites)))) (rowsIn (now (now (a .rows)))) (now (a .terms)) (now (a .vars))
+
+    a-child : (let a = a-start .args in
+        (a .n < t) × ((24 * a .n ≤ length (now (now (a .nodes)))) × (24 * a .n < 2 ^ 64) × (length (now (a .terms)) ≡ 8) × (length (now (a .vars)) ≡ 8) × Ordered 10 (now (now (a .rows)))))
+    a-child =
+        let p = a-start .pre in
+        let h = lower (k .before .before .if1 .left) (p .0) (p .1 .0) (p .1 .1) in
+        (h .0, (h .1, h .2, p .1 .2, p .1 .3, p .1 .4))
 
     advice-is : {r : ℕ}
-        → (let a = a-start .args in 16 ≤ getD (now (a .nodes)) (24 * a .n) 0 → r ≡ adviceOf (readNode (now (a .nodes)) (24 * a .n)) (rowOf a-ask (nodesIn (now (a .nodes))) (a .n))
-        → r ≡ advice (getD (rowOf a-ask (nodesIn (now (a .nodes))) (a .top)) (a .n) 0))
-    advice-is h e = let a = a-start .args in advice-here a-ask (now (a .nodes)) (a .n) (a .top) (k .before .if1 .left) (a-start .pre .1 .0) h e
+        → (let a = a-start .args in 16 ≤ getD (now (now (a .nodes))) (24 * a .n) 0 → r ≡ adviceOf (readNode (now (now (a .nodes))) (24 * a .n)) (rowOf a-ask (nodesIn (now (now (a .nodes)))) (a .n))
+        → r ≡ advice (getD (rowOf a-ask (nodesIn (now (now (a .nodes)))) (a .top)) (a .n) 0))
+    advice-is h e = let a = a-start .args in advice-here a-ask (now (now (a .nodes))) (a .n) (a .top) (k .before .before .if1 .left) (a-start .pre .1 .0) h e
 
   -- where `holds` has its node's kind
-  module _ (k : holds-lts.After-shared-slice-known4 holds-claims holds-at holds.Post) where
+  module _ (k : holds-lts.After-shared-slice-known holds-claims holds-at holds.Post) where
     abbrev h-start : holds-lts.Start holds-claims holds-at holds.Post
-    h-start = k .before .before .before .before .before
+    h-start = k .before .before .before
 
     abbrev h-ask : Ask
-    h-ask = let a = h-start .args in ask (sitesIn (now (a .sites))) (rowsIn (now (a .rows))) (a .terms) (a .vars)
+    h-ask = let a = h-start .args in ask (sitesIn (now (now (a .sites)))) (rowsIn (now (now (a .rows)))) (now (a .terms)) (now (a .vars))
+
+    h-child : (let a = h-start .args in
+        (a .n < t) × ((24 * a .n ≤ length (now (now (a .nodes)))) × (24 * a .n < 2 ^ 64) × (length (now (a .terms)) ≡ 8) × (length (now (a .vars)) ≡ 8) × Ordered 10 (now (now (a .rows)))))
+    h-child =
+        let p = h-start .pre in
+        let h = lower (k .before .before .if1 .left) (p .0) (p .1 .0) (p .1 .1) in
+        (h .0, (h .1, h .2, p .1 .2, p .1 .3, p .1 .4))
 
     yes-is : {r : Bool}
-        → (let a = h-start .args in getD (now (a .nodes)) (24 * a .n) 0 < 16 → r ≡ conditionOf h-ask (readNode (now (a .nodes)) (24 * a .n)) (rowOf h-ask (nodesIn (now (a .nodes))) (a .n))
-        → r ≡ yes (getD (rowOf h-ask (nodesIn (now (a .nodes))) (a .top)) (a .n) 0))
-    yes-is h e = let a = h-start .args in yes-here h-ask (now (a .nodes)) (a .n) (a .top) (k .before .if1 .left) (h-start .pre .1 .0) h e
-
-  -- a second child, too, is asked for below the node
-  advises-second : advises-lts.Need-advises-requires-3 advises-claims advises-at advises.Post
-  advises-second c κs =
-      let k = c .before .before .before .before .before .before in
-      let s = a-start k in
-      let h = lower (k .before .if1 .left) (s .pre .0) (s .pre .1 .0) in
-      (h .0, (h .1, s .pre .1 .1))
-
-  holds-second-and : holds-lts.Need-holds-requires-3 holds-claims holds-at holds.Post
-  holds-second-and c κs =
-      let k = c .before .before .before .before .before in
-      let s = h-start k in
-      let h = lower (k .before .if1 .left) (s .pre .0) (s .pre .1 .0) in
-      (h .0, (h .1, s .pre .1 .1))
-
-  holds-second-or : holds-lts.Need-holds-requires-5 holds-claims holds-at holds.Post
-  holds-second-or c κs =
-      let k = c .before .before .before .before .before in
-      let s = h-start k in
-      let h = lower (k .before .if1 .left) (s .pre .0) (s .pre .1 .0) in
-      (h .0, (h .1, s .pre .1 .1))
+        → (let a = h-start .args in getD (now (now (a .nodes))) (24 * a .n) 0 < 16 → r ≡ conditionOf h-ask (readNode (now (now (a .nodes))) (24 * a .n)) (rowOf h-ask (nodesIn (now (now (a .nodes)))) (a .n))
+        → r ≡ yes (getD (rowOf h-ask (nodesIn (now (now (a .nodes)))) (a .top)) (a .n) 0))
+    yes-is h e = let a = h-start .args in yes-here h-ask (now (now (a .nodes))) (a .n) (a .top) (k .before .before .if1 .left) (h-start .pre .1 .0) h e
 
   advises-returns : advises-lts.Need-returns advises-claims advises-at advises.Post
   advises-returns c =
-      let a = c .before .before .before .before .args in
-      advice-past (ask (sitesIn (now (a .sites))) (rowsIn (now (a .rows))) (a .terms) (a .vars)) (now (a .nodes)) (a .n) (a .top) (c .if1 .taken)
+      let a = c .before .args in
+      advice-past (ask (sitesIn (now (now (a .sites)))) (rowsIn (now (now (a .rows)))) (now (a .terms)) (now (a .vars))) (now (now (a .nodes))) (a .n) (a .top) (c .if1 .taken)
 
   advises-returns-2 : advises-lts.Need-returns-2 advises-claims advises-at advises.Post
   unfolding adviceOf readNode
@@ -124,13 +117,13 @@ module _ (t : ℕ) where
       let m = c .before in
       let k = m .before in
       let a = a-start k .args in
-      advice-else (a-ask k) (now (a .nodes)) (a .n) (a .top) (k .before .if1 .left) (a-start k .pre .1 .0) (c .if3 .taken) (m .match .rest .0 .0 .1) (m .match .rest .0 .1) (m .match .rest .1)
+      advice-else (a-ask k) (now (now (a .nodes))) (a .n) (a .top) (k .before .before .if1 .left) (a-start k .pre .1 .0) (c .if3 .taken) (m .match .rest .0 .0 .1) (m .match .rest .0 .1) (m .match .rest .1)
 
   advises-returns-4 : advises-lts.Need-returns-4 advises-claims advises-at advises.Post
   advises-returns-4 c =
       let k = c .before .before .before in
       let a = a-start k .args in
-      advice-beyond (a-ask k) (now (a .nodes)) (a .n) (a .top) (k .before .if1 .left) (a-start k .pre .1 .0) (c .if4 .taken)
+      advice-beyond (a-ask k) (now (now (a .nodes))) (a .n) (a .top) (k .before .before .if1 .left) (a-start k .pre .1 .0) (c .if4 .taken)
 
   advises-returns-5 : advises-lts.Need-returns-5 advises-claims advises-at advises.Post
   unfolding adviceOf readNode
@@ -154,8 +147,8 @@ module _ (t : ℕ) where
 
   holds-returns : holds-lts.Need-returns holds-claims holds-at holds.Post
   holds-returns c =
-      let a = c .before .before .before .before .args in
-      yes-past (ask (sitesIn (now (a .sites))) (rowsIn (now (a .rows))) (a .terms) (a .vars)) (now (a .nodes)) (a .n) (a .top) (c .if1 .taken)
+      let a = c .before .args in
+      yes-past (ask (sitesIn (now (now (a .sites)))) (rowsIn (now (now (a .rows)))) (now (a .terms)) (now (a .vars))) (now (now (a .nodes))) (a .n) (a .top) (c .if1 .taken)
 
   holds-returns-2 : holds-lts.Need-returns-2 holds-claims holds-at holds.Post
   unfolding conditionOf readNode
@@ -193,7 +186,7 @@ module _ (t : ℕ) where
 
   holds-returns-9 : holds-lts.Need-returns-9 holds-claims holds-at holds.Post
   unfolding conditionOf readNode testOf wanted
-  holds-returns-9 c = let m = c .before in yes-is (m .before) (omega arith) (rw (m .match .keys6) (c .test .ensures))
+  holds-returns-9 c = let m = c .before .before .before in yes-is (m .before) (omega arith) (rw (m .match .keys6) (c .test .ensures))
 
   holds-returns-10 : holds-lts.Need-returns-10 holds-claims holds-at holds.Post
   unfolding conditionOf readNode
@@ -208,7 +201,7 @@ module _ (t : ℕ) where
       let k = c .before in
       let a = h-start k .args in
       let r = c .match .rest in
-      yes-else (h-ask k) (now (a .nodes)) (a .n) (a .top) (k .before .if1 .left) (h-start k .pre .1 .0)
+      yes-else (h-ask k) (now (now (a .nodes))) (a .n) (a .top) (k .before .before .if1 .left) (h-start k .pre .1 .0)
       (r .0 .0 .0 .0 .0 .0 .0 .1) (r .0 .0 .0 .0 .0 .0 .1) (r .0 .0 .0 .0 .0 .1) (r .0 .0 .0 .0 .1) (r .0 .0 .0 .1) (r .0 .0 .1) (r .0 .1) (r .1)
 
 pub +advises+holds-spec : {M : Type 1} → statement M
@@ -222,20 +215,20 @@ pub +advises+holds-spec : {M : Type 1} → statement M
     (λ c. search needs)
     (λ c. search needs)
     (λ c κs. search needs)
-    (λ c κs. search needs)
+    (λ c κs. a-child t (c .before .before))
     (advises-returns-2 t)
     (λ c. search needs)
     (λ c κs. search needs)
-    (λ c κs. search needs)
+    (λ c κs. a-child t (c .before .before))
     (λ c κs. search needs)
     (advises-returns-3 t)
     (advises-returns-4 t)
     (λ c. search needs)
     (λ c κs. search needs)
-    (λ c κs. search needs)
+    (λ c κs. a-child t (c .before .before .before .before))
     (λ c. search needs)
     (λ c κs. search needs)
-    (advises-second t)
+    (λ c κs. a-child t (c .before .before .before .before .before .before))
     (λ c κs. search needs)
     (advises-returns-5 t)
     (advises-returns-6 t)
@@ -247,27 +240,27 @@ pub +advises+holds-spec : {M : Type 1} → statement M
     (λ c. search needs)
     (λ c. search needs)
     (λ c κs. search needs)
-    (λ c κs. search needs)
+    (λ c κs. h-child t (c .before .before))
     (λ c. search needs)
     (λ c κs. search needs)
-    (λ c κs. search needs)
+    (λ c κs. h-child t (c .before .before))
     (holds-returns-2 t)
     (λ c. search needs)
     (λ c κs. search needs)
-    (holds-second-and t)
+    (λ c κs. h-child t (c .before .before .before .before .before))
     (λ c. search needs)
     (λ c κs. search needs)
-    (λ c κs. search needs)
+    (λ c κs. h-child t (c .before .before))
     (holds-returns-3 t)
     (λ c. search needs)
     (λ c κs. search needs)
-    (holds-second-or t)
+    (λ c κs. h-child t (c .before .before .before .before .before))
     (λ c κs. search needs)
     (λ c κs. search needs)
     (λ c κs. search needs)
     (λ c. search needs)
     (λ c κs. search needs)
-    (λ c κs. search needs)
+    (λ c κs. h-child t (c .before .before))
     (λ c κs. search needs)
     (holds-returns-4 t)
     (holds-returns-5 t)

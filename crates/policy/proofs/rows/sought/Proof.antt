@@ -36,7 +36,7 @@ module _ (c : tie.After-wanted Inv-loop μ-loop) where
   here = drop (start .args .first) (rowsIn (now (start .args .rows)))
 
   abbrev test : Row → Bool
-  test = wanted (start .args .vars) (readNode (now (start .args .nodes)) (start .args .node))
+  test = wanted (now (start .args .vars)) (readNode (now (start .args .nodes)) (start .args .node))
 
   there : loop .loop .i < length here
   there = record-there readRow rowWidth (now (start .args .rows)) noRow (start .args .first) (loop .loop .i) (omega arith)

@@ -18,13 +18,13 @@ unfolding readNode
 returns c =
     let p = c .before .before in
     let a = p .before .before .before .before .before .args in
-    sym (test-nowhere (sitesIn (now (a .sites))) (rowsIn (now (a .rows))) (a .vars) (readNode (now (a .nodes)) (a .node)) (rw (← p .before .word .ensures, ← p .place-of .ensures) (c .enum-told .given .1)))
+    sym (test-nowhere (sitesIn (now (a .sites))) (rowsIn (now (a .rows))) (now (a .vars)) (readNode (now (a .nodes)) (a .node)) (rw (← p .before .word .ensures, ← p .place-of .ensures) (c .enum-told .given .1)))
 
 group-requires : tie.Need-group-requires
 group-requires c κs =
     let p = c .before .before .before in
     let s = p .before .before .before .before .before in
-    (omega arith, omega (arith, place-there (now (s .args .sites)) (p .before .word .result) (c .before .place .given .0 .0) (rw (← p .place-of .ensures) (c .before .place .given .1))), s .pre .1)
+    (omega arith, omega (arith, place-there (now (s .args .sites)) (p .before .word .result) (c .before .place .given .0 .0) (rw (← p .place-of .ensures) (c .before .place .given .1))), s .pre .2)
 
 returns-2 : tie.Need-returns-2
 unfolding readNode
@@ -37,8 +37,8 @@ returns-2 c =
     let t = k .place .given .0 .0 in
     let x = readNode (now (a .nodes)) (a .node) in
     c .sought .ensures
-    ∙ ap (some (wanted (a .vars) x)) (sym (owned readRow (λ r. r .owner) noRow rowWidth (now (a .rows)) (row-owner (now (a .rows))) (s .pre .1) t _ _ (g .group .ensures)))
-    ∙ sym (test-there (sitesIn (now (a .sites))) (rowsIn (now (a .rows))) (a .vars) x t (rw (← p .before .word .ensures, ← p .place-of .ensures) (k .place .given .1)))
+    ∙ ap (some (wanted (now (a .vars)) x)) (sym (owned readRow (λ r. r .owner) noRow rowWidth (now (a .rows)) (row-owner (now (a .rows))) (s .pre .2) t _ _ (g .group .ensures)))
+    ∙ sym (test-there (sitesIn (now (a .sites))) (rowsIn (now (a .rows))) (now (a .vars)) x t (rw (← p .before .word .ensures, ← p .place-of .ensures) (k .place .given .1)))
 
 pub test-spec : {M : Type 1} → statement M
 test-spec =

@@ -61,7 +61,7 @@ module _ (c : tie.After-asks Inv-loop μ-loop) where
   i-four : (loop .loop .i < length operands) × (loop .loop .i < length values)
   i-four = omega (arith, four-operands (now (start .args .nodes)) (start .args .node + 8), four-words (now (start .args .rows)) (start .args .at + 2))
 
-  tried : c .asks .result ≡ asks (start .args .vars) (getD operands (loop .loop .i) noOperand) (getD values (loop .loop .i) 0)
+  tried : c .asks .result ≡ asks (now (start .args .vars)) (getD operands (loop .loop .i) noOperand) (getD values (loop .loop .i) 0)
   tried =
       rw (operand-in (now (start .args .nodes)) (start .args .node + 8) noOperand (loop .loop .i) (omega arith), word-in (now (start .args .rows)) (start .args .at + 2) (loop .loop .i) (omega arith))
       (cc)
@@ -72,14 +72,14 @@ returns-2 c =
     let a = start b .args in
     let n = loop b .before .up-to-four .result in
     let h = i-four b in
-    sym (fit-stops (asks (a .vars)) noOperand 0 (loop b .loop .i) n (operands b) (values b) (omega arith) (h .0) (h .1) (fails (tried b) (c .if2 .taken)))
-    ∙ whole (now (a .rows)) (a .at) (now (a .nodes)) (a .node) (a .vars) n (loop b .before .before .if1 .left) (loop b .before .up-to-four .ensures)
+    sym (fit-stops (asks (now (a .vars))) noOperand 0 (loop b .loop .i) n (operands b) (values b) (omega arith) (h .0) (h .1) (fails (tried b) (c .if2 .taken)))
+    ∙ whole (now (a .rows)) (a .at) (now (a .nodes)) (a .node) (now (a .vars)) n (loop b .before .before .if1 .left) (loop b .before .up-to-four .ensures)
 
 loop-again : tie.Need-loop-again Inv-loop μ-loop
 loop-again c =
     let b = c .before in
     let h = i-four b in
-    (omega arith, omega arith, rw (add-one (loop b .loop .i)) (fit-more (asks (start b .args .vars)) noOperand 0 (loop b .loop .i) (operands b) (values b) (h .0) (h .1) (loop b .loop .inv .2) (holds (tried b) (c .if2 .left))))
+    (omega arith, omega arith, rw (add-one (loop b .loop .i)) (fit-more (asks (now (start b .args .vars))) noOperand 0 (loop b .loop .i) (operands b) (values b) (h .0) (h .1) (loop b .loop .inv .2) (holds (tried b) (c .if2 .left))))
 
 returns-3 : tie.Need-returns-3 Inv-loop μ-loop
 returns-3 c =
@@ -87,7 +87,7 @@ returns-3 c =
     let u = l .before in
     let a = u .before .before .before .before .before .before .args in
     let e : l .loop .i ≡ u .up-to-four .result = omega arith in
-    sym (l .loop .inv .2) ∙ whole (now (a .rows)) (a .at) (now (a .nodes)) (a .node) (a .vars) (l .loop .i) (u .before .if1 .left) (e ∙ u .up-to-four .ensures)
+    sym (l .loop .inv .2) ∙ whole (now (a .rows)) (a .at) (now (a .nodes)) (a .node) (now (a .vars)) (l .loop .i) (u .before .if1 .left) (e ∙ u .up-to-four .ensures)
 
 pub wanted-spec : {M : Type 1} → statement M
 wanted-spec =

@@ -1,40 +1,48 @@
--- `policy::mandatory` meets its contract. The invariant: the first i rules are gathered. Nothing here counts the rules: the loop goes through
+-- `policy::mandatory` meets its contract. The invariant: the first i rules say nothing. Nothing here counts the rules: the loop goes through
 -- the table of the definition, whichever it is. Assumes nothing.
-use mathlib.Core.Path.{_≡_, refl, ap, _∙_}
+use denote.Ref.{now}
+use mathlib.Core.Path.{_≡_, refl, sym, ap, _∙_}
 use mathlib.Core.List.{map}
 use Prim.Native.Nat.{_-_, _≤_, _<_}
 use native.Mathlib.Omega.{arith}
 use native.Mathlib.Numerals.{add-one}
 use borrow.Author.Needs.{needs}
+use lib.Dec.{lit<}
 use lib.ListN.{length, getD, take}
 use lib.Seq.{take-all}
+use Rattle.belnap.specs.Belnap.{gatherOf}
 use Rattle.policy.specs.House.{ruleGives, mandatoryRules, demands, gatherAll, mandatory}
-use Rattle.policy.proofs.Mandatory.{gather-more, terms-inside}
+use Rattle.policy.proofs.Mandatory.{gather-more, terms-inside, mandatory-denies}
 use Rattle.policy.proofs.rules.mandatory.Statement.{statement}
 use Rattle.policy.proofs.rules.mandatory.Tie as tie
 
 abbrev Inv-loop : tie.InvT-loop
-Inv-loop capability terms rules value₀ i₀ value i =
-    (i ≤ length mandatoryRules) × (value < 4) × (value ≡ gatherAll (map (ruleGives capability terms) (take i mandatoryRules)))
+Inv-loop capability terms rules i₀ i = (i ≤ length mandatoryRules) × (gatherAll (map (ruleGives capability terms) (take i mandatoryRules)) ≡ 0)
 
 abbrev μ-loop : tie.MeasureT-loop
-μ-loop capability terms rules value₀ i₀ value i = length mandatoryRules - i
+μ-loop capability terms rules i₀ i = length mandatoryRules - i
 
 rule-gives-requires : tie.Need-rule-gives-requires Inv-loop μ-loop
 rule-gives-requires c κs = terms-inside (c .before .before .loop .i) (search needs)
+
+returns : tie.Need-returns Inv-loop μ-loop
+returns c =
+    let l = c .before .before .before .before in
+    let a = l .before .args in
+    (sym (mandatory-denies (a .capability) (now (a .terms)) (l .loop .i) (omega arith) (λ e. c .if1 .taken (c .before .rule-gives .ensures ∙ e))), lit< tt)
 
 loop-again : tie.Need-loop-again Inv-loop μ-loop
 loop-again c =
     let l = c .before .before .before .before in
     let a = l .before .args in
-    (omega arith, c .gather .ensures .1, rw (add-one (l .loop .i), gather-more (ruleGives (a .capability) (a .terms)) (l .loop .i) mandatoryRules (demands 0 0 0) (omega arith)) (cc))
+    (omega arith, rw (add-one (l .loop .i), gather-more (ruleGives (a .capability) (now (a .terms))) (l .loop .i) mandatoryRules (demands 0 0 0) (omega arith), l .loop .inv .1, ← c .before .rule-gives .ensures, c .if1 .left))
 
-returns : tie.Need-returns Inv-loop μ-loop
+returns-2 : tie.Need-returns-2 Inv-loop μ-loop
 unfolding mandatory
-returns c =
+returns-2 c =
     let l = c .before in
     let a = l .before .args in
-    (l .loop .inv .2 ∙ ap (λ r. gatherAll (map (ruleGives (a .capability) (a .terms)) r)) (take-all (l .loop .i) mandatoryRules (omega arith)), l .loop .inv .1)
+    (sym (ap (λ r. gatherAll (map (ruleGives (a .capability) (now (a .terms))) r)) (sym (take-all (l .loop .i) mandatoryRules (omega arith))) ∙ l .loop .inv .1), lit< tt)
 
 pub mandatory-spec : {M : Type 1} → statement M
 mandatory-spec =
@@ -42,12 +50,12 @@ mandatory-spec =
     (tie.spec
     Inv-loop
     μ-loop
-    (λ c. (omega arith, omega arith, refl))
+    (λ c. (omega arith, refl))
     (λ c. search needs)
     (λ c. search needs)
     rule-gives-requires
-    (λ c κs. search needs)
+    returns
     (λ c. search needs)
     (λ c. search needs)
     loop-again
-    returns)
+    returns-2)
