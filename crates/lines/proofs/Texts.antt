@@ -3,7 +3,8 @@ use mathlib.Core.Path.{_≡_, refl, sym, ap, _∙_}
 use mathlib.Core.Bool.{true, false}
 use mathlib.Core.List.{List, [], _∷_, _++_, append-assoc, append-nil}
 use Prim.Native.Nat.{ℕ, zero, suc, _+_, _-_, _*_, _^_, _≤_, _<_}
-use native.Mathlib.Nat.{add-zero, add-assoc, zero-add, le-trans, pow-le-pow-right}
+use native.Mathlib.Nat.{add-zero, add-assoc, zero-add, mul-suc, le-trans, pow-le-pow-right}
+use native.Mathlib.Numerals.{add-one}
 use native.Mathlib.Omega.{arith, by-contra}
 use lib.Dec.{leb}
 use lib.ListN.{length, take, drop, length-append, take-append-drop}
@@ -59,6 +60,28 @@ pub line-length : (w l : List ℕ) → length (line w l) ≤ length w + 21 * len
 unfolding line
 line-length w l = simp length-append (omega (arith, spaced-length l))
 
+-- ---- lines in a row
+module _ (f : ℕ → List ℕ) where
+  pub lines-none : lines 0 f ≡ []
+  unfolding lines
+  lines-none = refl
+
+  pub lines-more : (n : ℕ) → lines (n + 1) f ≡ lines n f ++ f n
+  unfolding lines
+  lines-more n = rw add-one
+
+  pub lines-length : (w n : ℕ) → ((k : ℕ) → k < n → length (f k) ≤ w) → length (lines n f) ≤ w * n
+  unfolding lines
+  lines-length w zero h = omega arith
+  lines-length w (suc n) h =
+      rw (length-append, mul-suc) (omega (arith, lines-length w n (λ k l. h k (omega arith)), h n (omega arith)))
+
+-- lines that are the same one by one
+pub lines-same : (f g : ℕ → List ℕ) (n : ℕ) → ((k : ℕ) → k < n → f k ≡ g k) → lines n f ≡ lines n g
+unfolding lines
+lines-same f g zero e = refl
+lines-same f g (suc n) e = rw (lines-same f g n (λ k h. e k (omega arith)), e n (omega arith))
+
 -- ---- one text after the other
 splice-after : (m : List ℕ) (at : ℕ) (s t : List ℕ) → at ≤ length m → splice (splice m at s) (at + length s) t ≡ splice m at (s ++ t)
 unfolding splice
@@ -75,6 +98,10 @@ put-then {a} {b} {c} {s} {t} {at} h p q = record {
   bytes = q .bytes ∙ rw (p .bytes, p .ends) (splice-after a at s t h);
   ends = q .ends ∙ rw (p .ends, length-append) (add-assoc at (length s) (length t));
 }
+
+-- a text by another name
+pub put-same : {a b s t : List ℕ} {at n : ℕ} → s ≡ t → Put a at s b n → Put a at t b n
+put-same {a} {at = at} e p = record { bytes = p .bytes ∙ ap (splice a at) e; ends = p .ends ∙ ap (λ (l : List ℕ). at + length l) e }
 
 -- nothing put
 pub put-none : (a : List ℕ) (at : ℕ) → Put a at [] a at

@@ -137,7 +137,10 @@ fn loaded(image: &[u8], steps: &[u8], out: &mut [u8]) -> usize
 fn input_ok(input: &[u8]) -> bool
     ensures { λ r. ⌜ r ≡ inputOk (now (input .entry)) ⌝ }
 {
-    if (MOST_INPUT < input.len()) | (input.len() < 4) {
+    if MOST_INPUT < input.len() {
+        return false;
+    }
+    if input.len() < 4 {
         return false;
     }
     words::long_at(input, 0) <= input.len() - 4
