@@ -10,6 +10,7 @@ use lib.Dec.{leb}
 use lib.ListN.{length, take, drop, length-append, take-append-drop}
 use lib.Seq.{length-take-le, drop-drop}
 use borrow.Author.Tests.{le-leb, lt-leb}
+use Rattle.io.specs.Counts.{Counts}
 use Rattle.io.specs.Digits.{digits, Fewest}
 use Rattle.words.specs.Lists.{firstBad}
 use Rattle.words.specs.Bytes.{splice}
@@ -102,6 +103,12 @@ put-then {a} {b} {c} {s} {t} {at} h p q = record {
 -- a text by another name
 pub put-same : {a b s t : List ℕ} {at n : ℕ} → s ≡ t → Put a at s b n → Put a at t b n
 put-same {a} {at = at} e p = record { bytes = p .bytes ∙ ap (splice a at) e; ends = p .ends ∙ ap (λ (l : List ℕ). at + length l) e }
+
+-- what was put at the front lies within
+pub put-counts : {a b t : List ℕ} {n : ℕ} → Put a 0 t b n → Counts n b
+put-counts {a} {b} {t} {n} p =
+    let h : n ≤ length b = omega (arith, p .ends, ap length (p .bytes ∙ splice-zero a t), length-append t (drop (length t) a)) in
+    (h, sym (length-take-le n b h))
 
 -- nothing put
 pub put-none : (a : List ℕ) (at : ℕ) → Put a at [] a at

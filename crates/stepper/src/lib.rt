@@ -4,6 +4,7 @@ ghost use mathlib.Core.Bool.{true};
 ghost use mathlib.Core.List.{_++_};
 ghost use Prim.Native.Nat.{_+_, _*_, _/_, _≤_, _<_};
 ghost use lib.ListN.{length};
+ghost use Rattle.io.specs.Counts.{Counts};
 ghost use Rattle.net.specs.Net.{held};
 ghost use Rattle.net.specs.Image.{sitesIn, rowsIn};
 ghost use Rattle.monitor.specs.Memory.{holdsNet, rulesHeld, stateHeld};
@@ -150,6 +151,7 @@ fn input_ok(input: &[u8]) -> bool
 pub fn farmstep(input: &[u8], out: &mut [u8]) -> usize
     requires { ⌜ 262144 ≤ length (now out) ⌝ }
     ensures { λ r. ⌜ Put (now (out .entry)) 0 (printed (now (input .entry))) (now (out .exit)) r ⌝ }
+    ensures { λ r. ⌜ Counts r (now (out .exit)) ⌝ }
 {
     if !input_ok(input) {
         return lines::text(out, 0, b"input\n");

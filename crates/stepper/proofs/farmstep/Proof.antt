@@ -7,7 +7,7 @@ use native.Mathlib.Omega.{arith}
 use lib.ListN.{length, take, drop, length-take, length-drop}
 use borrow.Author.Needs.{needs}
 use Rattle.words.proofs.Truth.{fails, holds}
-use Rattle.lines.proofs.Texts.{put-same}
+use Rattle.lines.proofs.Texts.{put-same, put-counts}
 use Rattle.stepper.specs.Farmstep.{printed}
 use Rattle.stepper.proofs.Printing.{Input, input-parts, input-line, printed-parts}
 use Rattle.stepper.proofs.farmstep.Statement.{statement}
@@ -17,7 +17,8 @@ returns : tie.Need-returns
 unfolding printed
 returns c =
     let t = c .before .before .before .before .before in
-    put-same (sym (rw (fails (t .before .input-ok .ensures) (t .if1 .taken)) input-line)) (c .before .before .text .ensures)
+    let p = c .before .before .text .ensures in
+    (put-same (sym (rw (fails (t .before .input-ok .ensures) (t .if1 .taken)) input-line)) p, put-counts p)
 
 -- the input is right
 known : (c : tie.Else1) → Input (now (c .before .before .before .before .args .input))
@@ -33,7 +34,8 @@ returns-2 c =
     let l = c .before .before in
     let n = l .before .before .before .before .before in
     let i = n .before in
-    put-same (printed-parts _ (holds (i .before .input-ok .ensures) (i .if1 .left)) (n .long-at .ensures .0)) (l .loaded .ensures)
+    let p = l .loaded .ensures in
+    (put-same (printed-parts _ (holds (i .before .input-ok .ensures) (i .if1 .left)) (n .long-at .ensures .0)) p, put-counts p)
 
 pub farmstep-spec : {M : Type 1} → statement M
 farmstep-spec =
