@@ -42,7 +42,8 @@ fn set_right(vars: [u16; 8], bound: u8) -> bool
                 & (((vars[3] != 0) == (bound / 8 % 2 == 1))
                     & (((vars[4] != 0) == (bound / 16 % 2 == 1))
                         & (((vars[5] != 0) == (bound / 32 % 2 == 1))
-                            & (((vars[6] != 0) == (bound / 64 % 2 == 1)) & ((vars[7] != 0) == (bound / 128 % 2 == 1))))))))
+                            & (((vars[6] != 0) == (bound / 64 % 2 == 1))
+                                & ((vars[7] != 0) == (bound / 128 % 2 == 1))))))))
 }
 
 // Whether the state of a site is good whose program is the actions from..to.

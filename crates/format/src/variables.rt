@@ -22,7 +22,8 @@ fn bit(used: bool, tag: u16, x: Operand) -> u8
 fn set_of(tag: u16, n: u8, f: [Operand; 4]) -> u8
     ensures { λ r. ⌜ r ≡ setOf tag (take n f) ⌝ }
 {
-    bit(0 < n, tag, f[0]) | (bit(1 < n, tag, f[1]) | (bit(2 < n, tag, f[2]) | bit(3 < n, tag, f[3])))
+    bit(0 < n, tag, f[0])
+        | (bit(1 < n, tag, f[1]) | (bit(2 < n, tag, f[2]) | bit(3 < n, tag, f[3])))
 }
 
 // Whether no two of the first n fields bind one variable.

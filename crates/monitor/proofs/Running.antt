@@ -69,8 +69,18 @@ module _ (r : Rules) (s : State) (formed : T (wellFormed (record { state = s; ru
           → a ≡ step (rulesHeld m) (stateHeld m) (getD steps k 0) .answer → set out k (numberOf a) ≡ numbersAt r s steps (k + 1) ++ drop (k + 1) out₀
       answers-next out out₀ l w q =
           let n : length (numbersAt r s steps k) ≡ k = length-map (answers r s (take k steps)) numberOf ∙ length-answers r s (take k steps) ∙ length-take-le k steps (omega arith) in
-          rw (w, drop-cons out₀ k 0 l, set-at (numbersAt r s steps k) (getD out₀ k 0) (drop (suc k) out₀) (numberOf _) k n, q, rules-are, state-is, add-one, take-suc steps k 0 h,
-          answers-snoc r s (take k steps) (getD steps k 0), map-append)
+          rw (
+            w,
+            drop-cons out₀ k 0 l,
+            set-at (numbersAt r s steps k) (getD out₀ k 0) (drop (suc k) out₀) (numberOf _) k n,
+            q,
+            rules-are,
+            state-is,
+            add-one,
+            take-suc steps k 0 h,
+            answers-snoc r s (take k steps) (getD steps k 0),
+            map-append,
+          )
           (sym (append-snoc (numbersAt r s steps k) (numberOf (step r (stateAt r s steps k) (getD steps k 0) .answer)) (drop (suc k) out₀)))
 
 -- ---- the tests of run, in the code's order
@@ -84,7 +94,7 @@ module _ (m steps out : List ℕ) where
   -- past the first test there is room for every answer
   pub room-for-answers : long ≡ false → length steps ≤ length out
   room-for-answers e = ltb-false (length out) (length steps) (second (ltb mostSteps (length steps)) _ e)
-      where
+    where
       second : (a b : Bool) → (a || b) ≡ false → b ≡ false
       second true b q = no (ap (λ (z : Bool). cond z 1 0) (sym q))
       second false b q = q

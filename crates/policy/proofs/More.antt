@@ -22,6 +22,7 @@ use Rattle.net.specs.declared.Site.{Site}
 use Rattle.net.specs.declared.Row.{Row}
 use Rattle.net.specs.declared.Aspect.{Aspect}
 use Rattle.policy.specs.House.{Act, Ask, askOf, termsIn, traps, yes, advice, valueOf, rowOf, valueAt, gives, gatherAll, mandatory, policy, judge}
+use Rattle.policy.specs.Adding.{Adds}
 use Rattle.policy.proofs.Mandatory.{grants-all, gathered-lt, mandatory-value}
 
 -- ---- a longer table
@@ -95,12 +96,6 @@ module _ (p : Aspect → Bool) where
       pick false r = r
 
 -- ---- fewer rules
--- the second rules keep each aspect of the first under its owner, in any position; their nodes begin with the first's
-pub record Adds (r₁ r₂ : Rules) : Type 0 where
-  pub extra : List Node
-  pub begins : r₂ .nodes ≡ r₁ .nodes ++ extra
-  pub keeps : (a : Aspect) → List·Memᴰ a (r₁ .aspects) → List·Memᴰ a (r₂ .aspects)
-
 -- each aspect refers to nodes that are there
 abbrev pub Own : Rules → Type 0
 Own r = (a : Aspect) → List·Memᴰ a (r .aspects) → (a .condition < length (r .nodes)) × (a .recommendation < length (r .nodes))

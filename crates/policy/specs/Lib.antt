@@ -1,3 +1,4 @@
 pub mod Match
 pub mod House
 pub mod Owners
+pub mod Adding

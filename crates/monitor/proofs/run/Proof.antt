@@ -80,12 +80,13 @@ loop-again c =
     let s = stateHeld (m e) in
     let i = l .loop .i in
     let inv = l .loop .inv in
-    let t = c .before .before .before .tried in
-    (omega arith,
-    length-set (l .loop .answers) i _ ∙ inv .1,
-    omega (arith, c .before .before .memory .given, inv .2),
-    memory-next r s (formed e) (steps e) i (inv .3) (omega arith) (t .ensures .1),
-    ap (set (l .loop .answers) i) (c .number .ensures) ∙ answers-next r s (formed e) (steps e) i (inv .3) (omega arith) (l .loop .answers) (out e) (omega (arith, room e)) (inv .4) (t .ensures .0))
+    let t = c .before .before .before .tried in (
+      omega arith,
+      length-set (l .loop .answers) i _ ∙ inv .1,
+      omega (arith, c .before .before .memory .given, inv .2),
+      memory-next r s (formed e) (steps e) i (inv .3) (omega arith) (t .ensures .1),
+      ap (set (l .loop .answers) i) (c .number .ensures) ∙ answers-next r s (formed e) (steps e) i (inv .3) (omega arith) (l .loop .answers) (out e) (omega (arith, room e)) (inv .4) (t .ensures .0),
+    )
 
 returns-3 : tie.Need-returns-3 Inv-loop μ-loop
 returns-3 c =

@@ -5,35 +5,18 @@ use Rattle.monitor.proofs.Calls.{step-none, step-tried}
 use borrow.Author.Needs.{needs}
 use Rattle.monitor.proofs.step.Statement.{statement}
 use Rattle.monitor.proofs.step.Tie as tie
-use Rattle.monitor.proofs.step.Reads as reads
-use Rattle.monitor.proofs.step.Lts as lts
-use Rattle.monitor.proofs.holds.Reads as holds-reads
-use Rattle.monitor.proofs.tried.Reads as tried-reads
 
--- src/lib.rt:133:9
-holds-requires : tie.Need-holds-requires
-holds-requires c κs = search needs
-
--- src/lib.rt:134:9
-same-length : tie.Need-same-length
-same-length c = search needs
-
--- src/lib.rt:134:9
 returns : tie.Need-returns
 returns c = let s = c .before .before .before .before .args in step-none (now (s .memory)) (s .site) (fails (c .before .holds .ensures) (c .if1 .taken))
 
--- src/lib.rt:136:5
 tried-requires : tie.Need-tried-requires
 tried-requires c κs = holds (c .before .before .holds .ensures) (c .before .if1 .left)
 
--- src/lib.rt:129:1
-same-length-2 : tie.Need-same-length-2
-same-length-2 c = search needs
-
--- src/lib.rt:129:1
 returns-2 : tie.Need-returns-2
 returns-2 c = let s = c .before .before .before .before .before .before .before .before .args in step-tried (now (s .memory)) (s .site) (holds (c .before .before .before .before .before .holds .ensures) (c .before .before .before .before .if1 .left)) (c .before .before .tried .ensures .0) (c .before .before .tried .ensures .1)
 
 pub step-spec : {M : Type 1} → statement M
 step-spec =
-    tie.close (tie.spec holds-requires same-length returns tried-requires same-length-2 returns-2)
+    tie.close (tie.spec
+    (λ c κs. search needs) (λ c. search needs) returns tried-requires (λ c. search needs)
+    returns-2)

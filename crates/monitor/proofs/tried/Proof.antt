@@ -9,41 +9,17 @@ use Rattle.monitor.proofs.Doing.{tried-answer, tried-not}
 use borrow.Author.Needs.{needs}
 use Rattle.monitor.proofs.tried.Statement.{statement}
 use Rattle.monitor.proofs.tried.Tie as tie
-use Rattle.monitor.proofs.tried.Reads as reads
-use Rattle.monitor.proofs.tried.Lts as lts
-use Rattle.monitor.proofs.act.act.Reads as act-reads
-use Rattle.monitor.proofs.asked.Reads as asked-reads
-use Rattle.stepping.proofs.number.Reads as number-reads
 
 -- what is known of memory at entry
 bytes : (c : tie.After-slice-known) → Bytes (now (c .before .args .memory))
 bytes c k = omega (arith, c .slice-known .given k)
 
--- src/lib.rt:120:9
-asked-requires : tie.Need-asked-requires
-asked-requires c κs = search needs
-
--- src/lib.rt:122:8
-number-requires : tie.Need-number-requires
-number-requires c κs = search needs
-
--- src/lib.rt:123:9
 act-requires : tie.Need-act-requires
 act-requires c κs = let s = c .before .before .before .before .before .before in (s .pre, eq-eqb _ _ (sym (c .before .before .number .ensures) ∙ c .before .if1 .taken), c .before .before .before .asked .ensures)
 
--- src/lib.rt:115:1
-same-length : tie.Need-same-length
-same-length c = search needs
-
--- src/lib.rt:115:1
 returns : tie.Need-returns
 returns c = let s = c .before .before .before .before .before .before .before .before .before in (tried-answer (rulesHeld (now (s .args .memory))) (stateHeld (now (s .args .memory))) (s .args .site) (c .before .before .before .before .before .before .asked .result) (c .before .before .before .before .before .before .asked .ensures), c .before .before .act .ensures)
 
--- src/lib.rt:115:1
-same-length-2 : tie.Need-same-length-2
-same-length-2 c = search needs
-
--- src/lib.rt:115:1
 returns-2 : tie.Need-returns-2
 returns-2 c = let k = c .before .before .before .before in
     let s = k .before in
@@ -55,10 +31,5 @@ pub tried-spec : {M : Type 1} → statement M
 tried-spec =
     tie.close
     (tie.spec
-    asked-requires
-    number-requires
-    act-requires
-    same-length
-    returns
-    same-length-2
-    returns-2)
+    (λ c κs. search needs) (λ c κs. search needs) act-requires (λ c. search needs) returns
+    (λ c. search needs) returns-2)

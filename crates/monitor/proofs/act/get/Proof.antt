@@ -32,8 +32,7 @@ remove-row-requires c κs =
     let a = e .before .args in
     let r = room e in
     let rows = c .before .before .before .before .before .before .before .rows-of in
-    let l = ap length (c .before .before .before .before .before .write-site .ensures) in
-    (
+    let l = ap length (c .before .before .before .before .before .write-site .ensures) in (
       omega (arith, e .before .pre .1, rows .ensures .1, r .counted),
       omega (arith, rows .ensures .1, r .few),
       omega (arith, rows .ensures .0, r .base),

@@ -4,20 +4,13 @@ use borrow.Author.Tests.{lt-ltb, le-ltb}
 use borrow.Author.Needs.{needs}
 use Rattle.monitor.proofs.act.loses.Statement.{statement}
 use Rattle.monitor.proofs.act.loses.Tie as tie
-use Rattle.monitor.proofs.act.loses.Reads as reads
-use Rattle.monitor.proofs.act.loses.Lts as lts
 
--- src/act.rt:52:18
-add-y : tie.Need-add-y
-add-y c = search needs
-
--- src/act.rt:47:1
 returns : tie.Need-returns
 returns c = simp (add-one, lt-ltb _ _ (c .before .if1 .taken))
 
--- src/act.rt:47:1
 returns-2 : tie.Need-returns-2
 returns-2 c = simp (le-ltb _ _ (c .if1 .left))
 
 pub loses-spec : {M : Type 1} → statement M
-loses-spec = tie.close (tie.spec add-y returns returns-2)
+loses-spec = tie.close (tie.spec
+    (λ c. search needs) returns returns-2)

@@ -10,22 +10,13 @@ use Rattle.monitor.proofs.Readiness.{sited}
 use borrow.Author.Needs.{needs}
 use Rattle.monitor.proofs.act.plan_get.Statement.{statement}
 use Rattle.monitor.proofs.act.plan_get.Tie as tie
-use Rattle.monitor.proofs.act.plan_get.Reads as reads
-use Rattle.monitor.proofs.act.plan_get.Lts as lts
-use Rattle.monitor.proofs.act.image_of.Reads as image-of-reads
-use Rattle.monitor.proofs.act.read_get.Reads as read-get-reads
 
--- src/act.rt:254:9
-image-of-requires : tie.Need-image-of-requires
-image-of-requires c κs = search needs
-
--- src/act.rt:255:5
 read-get-requires : tie.Need-read-get-requires
 read-get-requires c κs = let s = c .before .before in (rw (c .image-of .ensures) (sited (now (s .args .memory)) (s .args .i) (s .args .t) (s .pre .0)), rw (c .image-of .ensures) (s .pre .1))
 
--- src/act.rt:250:1
 returns : tie.Need-returns
 returns c = let s = c .before .before .before in c .read-get .ensures ∙ ap (λ (b : List ℕ). informedBy (stateIn b) (actOf (s .args .i) (s .args .t) (s .args .action)) (s .args .k)) (c .before .image-of .ensures)
 
 pub plan-get-spec : {M : Type 1} → statement M
-plan-get-spec = tie.close (tie.spec image-of-requires read-get-requires returns)
+plan-get-spec = tie.close (tie.spec
+    (λ c κs. search needs) read-get-requires returns)

@@ -38,8 +38,7 @@ add-row-requires c κs =
     let p = c .before .before .before .before .before .before .before .before .before .before .before .plan-put in
     let rows = c .before .before .before .before .before .before .before .rows-of in
     let w = c .before .before .before .before .before .write-sites in
-    let l = ap length (w .ensures) in
-    (
+    let l = ap length (w .ensures) in (
       omega (arith, p .ensures .place, place-within (a .t) (stateHeld m .rows), rows .ensures .1, r .counted),
       omega (arith, rows .ensures .1, r .few),
       omega (arith, rows .ensures .0, r .base),

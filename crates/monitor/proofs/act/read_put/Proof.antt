@@ -15,13 +15,6 @@ use Rattle.monitor.specs.Plan.{Reads}
 use borrow.Author.Needs.{needs}
 use Rattle.monitor.proofs.act.read_put.Statement.{statement}
 use Rattle.monitor.proofs.act.read_put.Tie as tie
-use Rattle.monitor.proofs.act.read_put.Reads as reads
-use Rattle.monitor.proofs.act.read_put.Lts as lts
-use Rattle.monitor.proofs.act.advance.Reads as advance-reads
-use Rattle.monitor.proofs.act.changed.Reads as changed-reads
-use Rattle.monitor.proofs.act.site_after.Reads as site-after-reads
-use Rattle.monitor.proofs.act.site_of.Reads as site-of-reads
-use Rattle.monitor.proofs.act.store_of.Reads as store-of-reads
 
 -- what will be written, by the values on the way
 steps : {s : State} {i t place : ℕ} {room : Bool} {x source y target : Site} → x ≡ siteAt (s .sites) i → source ≡ advance (x .vars) x
@@ -30,15 +23,9 @@ steps : {s : State} {i t place : ℕ} {room : Bool} {x source y target : Site} �
     → Reads s i t (record { source = source; target = target; place = place; room = room })
 steps ex es ep er ey et = record { source = es ∙ rw ex; room = er; target = et ∙ rw (er, ey, es, ex); place = ep }
 
--- src/act.rt:202:9
-site-of-requires : tie.Need-site-of-requires
-site-of-requires c κs = search needs
-
--- src/act.rt:204:9
 advance-requires : tie.Need-advance-requires
 advance-requires c κs = let x = c .before in rw (x .site-of .ensures) (x .before .before .pre .small)
 
--- src/act.rt:205:9
 store-of-requires : tie.Need-store-of-requires
 unfolding mostOf
 store-of-requires c κs = let s = c .before .before .before .before in
@@ -46,15 +33,6 @@ store-of-requires c κs = let s = c .before .before .before .before in
     let b = now (s .args .image) in
     (ok, omega (arith, s .pre .target, sites-count b ok, entry-of b ok 1 (omega arith) (omega arith) .most), s .pre .rows)
 
--- src/act.rt:206:9
-site-after-requires : tie.Need-site-after-requires
-site-after-requires c κs = search needs
-
--- src/act.rt:209:17
-changed-requires : tie.Need-changed-requires
-changed-requires c κs = search needs
-
--- src/act.rt:198:1
 returns : tie.Need-returns
 returns c = let x = c .before .before .before .before .before in
     steps (x .site-of .ensures) (c .before .before .before .advance .ensures) (c .before .before .store-of .ensures .0) (c .before .before .store-of .ensures .1)
@@ -64,9 +42,5 @@ pub read-put-spec : {M : Type 1} → statement M
 read-put-spec =
     tie.close
     (tie.spec
-    site-of-requires
-    advance-requires
-    store-of-requires
-    site-after-requires
-    changed-requires
+    (λ c κs. search needs) advance-requires store-of-requires (λ c κs. search needs) (λ c κs. search needs)
     returns)

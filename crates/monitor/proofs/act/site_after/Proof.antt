@@ -21,4 +21,5 @@ returns-2 c =
     c .site-of .ensures ∙ sym (getD-set-other (stateIn (now (a .image)) .sites) (a .i) (a .t) (a .x) noSite (λ e. c .before .if1 .left (sym e)))
 
 pub site-after-spec : {M : Type 1} → statement M
-site-after-spec = tie.close (tie.spec returns (λ c κs. search needs) returns-2)
+site-after-spec = tie.close (tie.spec
+    returns (λ c κs. search needs) returns-2)

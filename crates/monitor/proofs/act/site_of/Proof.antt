@@ -31,4 +31,5 @@ returns c =
     ∙ sym (table-at readSite siteWidth b (s .args .i) noSite (rw (table-length readSite siteWidth b) at (s .pre .1)))
 
 pub site-of-spec : {M : Type 1} → statement M
-site-of-spec = tie.close (tie.spec (λ c κs. search needs) mul-site-at site-at-requires returns)
+site-of-spec = tie.close (tie.spec
+    (λ c κs. search needs) mul-site-at site-at-requires returns)

@@ -21,15 +21,6 @@ use Rattle.monitor.proofs.Asking.{contents-of, first, end, site-read, a
 use borrow.Author.Needs.{needs}
 use Rattle.monitor.proofs.ask.ask.Statement.{statement}
 use Rattle.monitor.proofs.ask.ask.Tie as tie
-use Rattle.monitor.proofs.ask.ask.Reads as reads
-use Rattle.monitor.proofs.ask.ask.Lts as lts
-use Rattle.format.proofs.part.Reads as part-reads
-use Rattle.monitor.proofs.ask.placed.Reads as placed-reads
-use Rattle.monitor.proofs.ask.refused.Reads as refused-reads
-use Rattle.monitor.proofs.ask.resolved_action.Reads as resolved-action-reads
-use Rattle.net.proofs.action_at.Reads as action-at-reads
-use Rattle.net.proofs.site_at.Reads as site-at-reads
-use Rattle.words.proofs.count_below.Reads as count-below-reads
 
 -- the actions stand in the order of their owners
 ordered : (b : List ℕ) {r : List ℕ} → r ≡ bodyIn b 4 → verdictOf b ≡ Accepted → Ordered actionWidth r
@@ -71,91 +62,42 @@ module _ (c : tie.After-count-below2) where
   position-is : c .before .before .before .before .site-at .result .position ≡ siteAt (stateIn (image there) .sites) (begin there .args .i) .position
   position-is = ap (λ (x : Site). x .position) site-is
 
--- src/ask.rt:175:9
 part-requires : tie.Need-part-requires
 part-requires c κs = let s = c .before in (omega arith, omega arith, contents-of (now (s .args .image)) (s .pre))
 
--- src/ask.rt:177:9
-refused-requires : tie.Need-refused-requires
-refused-requires c κs = search needs
-
--- src/ask.rt:177:9
 returns : tie.Need-returns
 returns c =
     let s = c .before .before .before .before in
     let m = now (s .args .image) in
     asked-no-site m (s .args .i) (c .refused .result) (omega (arith, table-length readSite siteWidth (bodyIn m 1), ap length (c .before .before .part .ensures .0), c .before .if1 .taken)) (c .refused .ensures)
 
--- src/ask.rt:179:33
-mul-site-at : tie.Need-mul-site-at
-mul-site-at c = search needs
-
--- src/ask.rt:179:9
-site-at-requires : tie.Need-site-at-requires
-site-at-requires c κs = search needs
-
--- src/ask.rt:180:14
-cast-at : tie.Need-cast-at
-cast-at c = search needs
-
--- src/ask.rt:181:9
 part-requires-2 : tie.Need-part-requires-2
 part-requires-2 c κs = let s = c .before .before .before .before .before in (omega arith, omega arith, contents-of (now (s .args .image)) (s .pre))
 
--- src/ask.rt:183:9
 count-below-requires : tie.Need-count-below-requires
 count-below-requires c κs =
     let s = c .before .before .before .before .before .before in
     (mul-div-le (length (now (c .part2 .result))) 24, omega arith, ordered (now (s .args .image)) (c .part2 .ensures .0) (s .pre))
 
--- src/ask.rt:184:50
-add-count-below : tie.Need-add-count-below
-add-count-below c = search needs
-
--- src/ask.rt:184:9
 count-below-requires-2 : tie.Need-count-below-requires-2
 count-below-requires-2 c κs =
     let s = c .before .before .before .before .before .before .before in
     (mul-div-le (length (now (c .before .part2 .result))) 24, omega arith, ordered (now (s .args .image)) (c .before .part2 .ensures .0) (s .pre))
 
--- src/ask.rt:185:8
 sub-if2 : tie.Need-sub-if2
 sub-if2 c =
     let e = there c in
     omega (arith, first-is c, end-is c, program-up (image e) (begin e .args .i) (inside e) (order c))
 
--- src/ask.rt:186:9
-refused-requires-2 : tie.Need-refused-requires-2
-refused-requires-2 c κs = search needs
-
--- src/ask.rt:186:9
 returns-2 : tie.Need-returns-2
 returns-2 c =
     let f = c .before .before in
     let e = there f in
     asked-done (image e) (begin e .args .i) (inside e) (order f) (c .refused2 .result) (omega (arith, first-is f, end-is f, position-is f, c .before .if2 .taken)) (c .refused2 .ensures)
 
--- src/ask.rt:189:64
-add-action-at : tie.Need-add-action-at
-add-action-at c = search needs
-
--- src/ask.rt:189:58
-mul-action-at : tie.Need-mul-action-at
-mul-action-at c = search needs
-
--- src/ask.rt:189:34
-action-at-requires : tie.Need-action-at-requires
-action-at-requires c κs = search needs
-
--- src/ask.rt:189:9
-resolved-action-requires : tie.Need-resolved-action-requires
-resolved-action-requires c κs = search needs
-
--- src/ask.rt:190:5
 placed-requires : tie.Need-placed-requires
 placed-requires c κs = let e = there (c .before .before .before .before) in (begin e .pre, inside e)
 
--- src/ask.rt:171:1
 returns-3 : tie.Need-returns-3
 returns-3 c =
     let f = c .before .before .before .before .before in
@@ -168,22 +110,7 @@ pub ask-spec : {M : Type 1} → statement M
 ask-spec =
     tie.close
     (tie.spec
-    part-requires
-    refused-requires
-    returns
-    mul-site-at
-    site-at-requires
-    cast-at
-    part-requires-2
-    count-below-requires
-    add-count-below
-    count-below-requires-2
-    sub-if2
-    refused-requires-2
-    returns-2
-    add-action-at
-    mul-action-at
-    action-at-requires
-    resolved-action-requires
-    placed-requires
-    returns-3)
+    part-requires (λ c κs. search needs) returns (λ c. search needs) (λ c κs. search needs)
+    (λ c. search needs) part-requires-2 count-below-requires (λ c. search needs) count-below-requires-2
+    sub-if2 (λ c κs. search needs) returns-2 (λ c. search needs) (λ c. search needs)
+    (λ c κs. search needs) (λ c κs. search needs) placed-requires returns-3)

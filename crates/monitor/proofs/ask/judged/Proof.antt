@@ -10,56 +10,37 @@ use Rattle.monitor.proofs.Asking.{contents-of, few-sites, judged-grante
 use borrow.Author.Needs.{needs}
 use Rattle.monitor.proofs.ask.judged.Statement.{statement}
 use Rattle.monitor.proofs.ask.judged.Tie as tie
-use Rattle.monitor.proofs.ask.judged.Reads as reads
-use Rattle.monitor.proofs.ask.judged.Lts as lts
-use Rattle.belnap.proofs.grants.Reads as grants-reads
-use Rattle.format.proofs.part.Reads as part-reads
-use Rattle.monitor.proofs.ask.allowed.Reads as allowed-reads
-use Rattle.monitor.proofs.ask.refused.Reads as refused-reads
-use Rattle.policy.proofs.judge.Reads as judge-reads
 
--- src/ask.rt:146:9
 part-requires : tie.Need-part-requires
 part-requires c κs = let s = c .before in (omega arith, omega arith, contents-of (now (s .args .image)) (s .pre .0))
 
--- src/ask.rt:147:9
 part-requires-2 : tie.Need-part-requires-2
 part-requires-2 c κs = let s = c .before .before in (omega arith, omega arith, contents-of (now (s .args .image)) (s .pre .0))
 
--- src/ask.rt:148:9
 part-requires-3 : tie.Need-part-requires-3
 part-requires-3 c κs = let s = c .before .before .before in (omega arith, omega arith, contents-of (now (s .args .image)) (s .pre .0))
 
--- src/ask.rt:149:9
 part-requires-4 : tie.Need-part-requires-4
 part-requires-4 c κs = let s = c .before .before .before .before in (omega arith, omega arith, contents-of (now (s .args .image)) (s .pre .0))
 
--- src/ask.rt:150:9
 judge-requires : tie.Need-judge-requires
 judge-requires c κs =
     let s = c .before .before .before .before .before in
     let m = now (s .args .image) in
     let ok = s .pre .0 in
-    let l = table-length readSite siteWidth (bodyIn m 1) in
-    (
+    let l = table-length readSite siteWidth (bodyIn m 1) in (
       rw (c .before .before .before .part .ensures .0) (omega (arith, l, s .pre .1)),
       rw (c .before .before .before .part .ensures .0) (omega (arith, l, s .pre .2)),
       rw (c .before .part3 .ensures .0) (accepted-aspects m ok),
       rw (c .part4 .ensures .0) (accepted-rows m ok),
     )
 
--- src/ask.rt:151:8
-grants-requires : tie.Need-grants-requires
-grants-requires c κs = search needs
-
--- src/ask.rt:152:9
 allowed-requires : tie.Need-allowed-requires
 allowed-requires c κs =
     let s = c .before .before .before .before .before .before .before .before in
     let m = now (s .args .image) in
     (few-sites m (s .pre .0) (s .pre .2), rw (c .before .before .before .part4 .ensures .0) (accepted-rows m (s .pre .0)))
 
--- src/ask.rt:152:9
 returns : tie.Need-returns
 returns c =
     let s = c .before .before .before .before .before .before .before .before .before in
@@ -68,11 +49,6 @@ returns c =
     judged-granted (now (a .image)) (actOf (a .i) (a .target) (a .action)) (j .before .before .before .before .part .ensures .0) (j .before .before .before .part2 .ensures .0) (j .before .before .part3 .ensures .0)
     (j .before .part4 .ensures .0) (j .judge .ensures .0) (c .before .before .grants .ensures) (c .allowed .result) (a .i) (c .before .if1 .taken) (c .allowed .ensures (a .i))
 
--- src/ask.rt:154:5
-refused-requires : tie.Need-refused-requires
-refused-requires c κs = search needs
-
--- src/ask.rt:142:1
 returns-2 : tie.Need-returns-2
 returns-2 c =
     let s = c .before .before .before .before .before .before .before .before .before in
@@ -85,13 +61,5 @@ pub judged-spec : {M : Type 1} → statement M
 judged-spec =
     tie.close
     (tie.spec
-    part-requires
-    part-requires-2
-    part-requires-3
-    part-requires-4
-    judge-requires
-    grants-requires
-    allowed-requires
-    returns
-    refused-requires
-    returns-2)
+    part-requires part-requires-2 part-requires-3 part-requires-4 judge-requires
+    (λ c κs. search needs) allowed-requires returns (λ c κs. search needs) returns-2)

@@ -121,8 +121,8 @@ loop-again c =
       omega arith,
       omega arith,
       miss-here (now (a .rows)) (s .pre .1) (a .target) (a .action) (l .loop .k)
-      (rw (← l .before .count-below2 .ensures .0) (l .loop .inv .0)) (rw (← l .before .before .count-below .ensures .0) (omega arith))
-      (c .before .before .row-at .result) (c .before .before .row-at .ensures) (so (c .before .fits2 .ensures) (c .if1 .left)) (l .loop .inv .2),
+          (rw (← l .before .count-below2 .ensures .0) (l .loop .inv .0)) (rw (← l .before .before .count-below .ensures .0) (omega arith))
+          (c .before .before .row-at .result) (c .before .before .row-at .ensures) (so (c .before .fits2 .ensures) (c .if1 .left)) (l .loop .inv .2),
     )
 
 returns-2 : tie.Need-returns-2 Inv-loop μ-loop

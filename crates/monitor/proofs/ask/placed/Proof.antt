@@ -5,48 +5,22 @@ use Rattle.monitor.proofs.Asking.{contents-of, placed-none, placed-insi
 use borrow.Author.Needs.{needs}
 use Rattle.monitor.proofs.ask.placed.Statement.{statement}
 use Rattle.monitor.proofs.ask.placed.Tie as tie
-use Rattle.monitor.proofs.ask.placed.Reads as reads
-use Rattle.monitor.proofs.ask.placed.Lts as lts
-use Rattle.format.proofs.part.Reads as part-reads
-use Rattle.monitor.proofs.ask.judged.Reads as judged-reads
-use Rattle.monitor.proofs.ask.refused.Reads as refused-reads
-use Rattle.net.proofs.place_of.Reads as place-of-reads
 
--- src/ask.rt:162:9
 part-requires : tie.Need-part-requires
 part-requires c κs = let s = c .before in (omega arith, omega arith, contents-of (now (s .args .image)) (s .pre .0))
 
--- src/ask.rt:164:29
-place-of-requires : tie.Need-place-of-requires
-place-of-requires c κs = search needs
-
--- src/ask.rt:164:19
-enum-known-target : tie.Need-enum-known-target
-enum-known-target c = search needs
-
--- src/ask.rt:165:24
-enum-told : tie.Need-enum-told
-enum-told c = search needs
-
--- src/ask.rt:165:9
-refused-requires : tie.Need-refused-requires
-refused-requires c κs = search needs
-
--- src/ask.rt:165:9
 returns : tie.Need-returns
 returns c =
     let s = c .before .before .before .before .before .before .before in
     let a = s .args in
     placed-none (now (a .image)) (a .i) (a .action) (c .before .before .before .before .before .part .ensures .0) (c .before .before .before .place-of .ensures) (c .refused .result) (c .before .enum-told .given .1) (c .refused .ensures)
 
--- src/ask.rt:167:5
 judged-requires : tie.Need-judged-requires
 judged-requires c κs =
     let s = c .before .before .before .before .before .before .before in
     let a = s .args in
     (s .pre .0, s .pre .1, placed-inside (now (a .image)) (a .action) (c .before .before .before .before .before .part .ensures .0) (c .before .before .before .place-of .ensures) (c .before .target .given .0 .0) (c .before .target .given .1))
 
--- src/ask.rt:158:1
 returns-2 : tie.Need-returns-2
 returns-2 c =
     let s = c .before .before .before .before .before .before .before .before in
@@ -57,11 +31,5 @@ pub placed-spec : {M : Type 1} → statement M
 placed-spec =
     tie.close
     (tie.spec
-    part-requires
-    place-of-requires
-    enum-known-target
-    enum-told
-    refused-requires
-    returns
-    judged-requires
-    returns-2)
+    part-requires (λ c κs. search needs) (λ c. search needs) (λ c. search needs) (λ c κs. search needs)
+    returns judged-requires returns-2)

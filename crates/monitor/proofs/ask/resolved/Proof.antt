@@ -3,21 +3,13 @@ use borrow.Author.Tests.{eq-eqb, ne-eqb}
 use borrow.Author.Needs.{needs}
 use Rattle.monitor.proofs.ask.resolved.Statement.{statement}
 use Rattle.monitor.proofs.ask.resolved.Tie as tie
-use Rattle.monitor.proofs.ask.resolved.Reads as reads
-use Rattle.monitor.proofs.ask.resolved.Lts as lts
-use Rattle.monitor.proofs.ask.variable.Reads as variable-reads
 
--- src/ask.rt:45:20
-variable-requires : tie.Need-variable-requires
-variable-requires c κs = search needs
-
--- src/ask.rt:39:1
 returns : tie.Need-returns
 returns c = simp (eq-eqb _ _ (c .before .if1 .taken)) (cc)
 
--- src/ask.rt:39:1
 returns-2 : tie.Need-returns-2
 returns-2 c = simp (ne-eqb _ _ (c .if1 .left))
 
 pub resolved-spec : {M : Type 1} → statement M
-resolved-spec = tie.close (tie.spec variable-requires returns returns-2)
+resolved-spec = tie.close (tie.spec
+    (λ c κs. search needs) returns returns-2)

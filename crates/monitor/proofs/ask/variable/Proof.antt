@@ -5,24 +5,10 @@ use native.Mathlib.Omega.{arith}
 use borrow.Author.Needs.{needs}
 use Rattle.monitor.proofs.ask.variable.Statement.{statement}
 use Rattle.monitor.proofs.ask.variable.Tie as tie
-use Rattle.monitor.proofs.ask.variable.Reads as reads
-use Rattle.monitor.proofs.ask.variable.Lts as lts
 
--- src/ask.rt:35:16
-mul-result : tie.Need-mul-result
-mul-result c = search needs
-
--- src/ask.rt:35:16
-array-read-result : tie.Need-array-read-result
-array-read-result c = search needs
-
--- src/ask.rt:31:1
-returns : tie.Need-returns
-returns c = search needs
-
--- src/ask.rt:31:1
 returns-2 : tie.Need-returns-2
 returns-2 c = sym (List·getD-eq-default (c .before .args .t1) 0 {n = c .before .args .v} (omega arith))
 
 pub variable-spec : {M : Type 1} → statement M
-variable-spec = tie.close (tie.spec mul-result array-read-result returns returns-2)
+variable-spec = tie.close (tie.spec
+    (λ c. search needs) (λ c. search needs) (λ c. search needs) returns-2)
