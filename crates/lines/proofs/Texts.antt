@@ -27,17 +27,17 @@ length-digits b (suc k) n = rw (length-append, length-digits b k) (omega arith)
 pub twenty : (n r : ℕ) → Fewest 10 1 n r → n < 2 ^ 64 → r ≤ 20
 twenty n r f h =
     by-contra r 20 (λ l.
-      let p : 10 ^ 20 ≤ 10 ^ (r - 1) = pow-le-pow-right (omega arith) {i = 20} (omega arith) in
-      let q = f .2 (omega arith) in
-      omega arith)
+    let p : 10 ^ 20 ≤ 10 ^ (r - 1) = pow-le-pow-right (omega arith) {i = 20} (omega arith) in
+    let q = f .2 (omega arith) in
+    omega arith)
 
 -- the fewest digits that hold a number are its decimal
 pub decimal-is : (n r : ℕ) → Fewest 10 1 n r → r ≤ 20 → digits 10 r n ≡ decimal n
 unfolding decimal places
 decimal-is n r f h =
     let e = first-is (λ k. leb (10 ^ (k + 1)) n) 19 (r - 1) (omega arith)
-        (λ j l. le-leb (10 ^ (j + 1)) n (le-trans (pow-le-pow-right (omega arith) {i = j + 1} {j = r - 1} (omega arith)) (f .2 (omega arith))))
-        (λ l. let q : r - 1 + 1 ≡ r = omega arith in lt-leb (10 ^ (r - 1 + 1)) n (rw q (f .1)))
+    (λ j l. le-leb (10 ^ (j + 1)) n (le-trans (pow-le-pow-right (omega arith) {i = j + 1} {j = r - 1} (omega arith)) (f .2 (omega arith))))
+    (λ l. let q : r - 1 + 1 ≡ r = omega arith in lt-leb (10 ^ (r - 1 + 1)) n (rw q (f .1)))
     in
     let q : 1 + (r - 1) ≡ r = omega arith in
     rw (e, q)

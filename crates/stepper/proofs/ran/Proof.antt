@@ -69,9 +69,10 @@ net-lines-requires c κs =
     let l = c .before .before .before .before in
     let t = l .before .before .before in
     let b = done t in
-    let f = few-steps (m b) (steps b) (out b) (held b) (room b) (bytes b) (through t) in
-    (holds-after (m b) (steps b) (out b) (held b) (room b) (bytes b) (through t) (b .run .ensures .1 .0),
-    omega (arith, f, begin b .pre .1, l .step-lines .ensures .ends, l .step-lines .kept .1 .1 .0, steps-length (steps b) (b .run .last .1 .1 .0) (length (steps b))))
+    let f = few-steps (m b) (steps b) (out b) (held b) (room b) (bytes b) (through t) in (
+      holds-after (m b) (steps b) (out b) (held b) (room b) (bytes b) (through t) (b .run .ensures .1 .0),
+      omega (arith, f, begin b .pre .1, l .step-lines .ensures .ends, l .step-lines .kept .1 .1 .0, steps-length (steps b) (b .run .last .1 .1 .0) (length (steps b))),
+    )
 
 returns-2 : tie.Need-returns-2
 returns-2 c =
