@@ -1,0 +1,2 @@
+pub mod Farmstep
+pub mod Bodies
