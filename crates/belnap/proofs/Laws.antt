@@ -4,11 +4,12 @@ use mathlib.Core.Bool.{Bool, true, false, cond, _&&_}
 use mathlib.Core.List.{List, [], _∷_}
 use Prim.Native.Nat.{ℕ, zero, suc, _+_, _*_, _/_, _%_, _≤_, _<_, max, min}
 use native.Mathlib.Omega.{arith}
-use lib.Dec.{T, ltb, eqb, ltb→lt, lt→ltb}
+use lib.Dec.{T, ltb, eqb, ltb→lt, lt→ltb, leb→le, eqb→eq}
+use borrow.Author.Tests.{le-ltb}
 use Rattle.words.specs.Lists.{all}
-use Rattle.words.proofs.Truth.{both-T, T-both, same-truth}
+use Rattle.words.proofs.Truth.{is-T, fails, both-T, T-both, same-truth}
 use Rattle.words.proofs.Lists.{all-getD}
-use Rattle.belnap.specs.Belnap.{for, against, grants, andOf, orOf, consensusOf, gatherOf, impliesOf, beforeOf, operateOf}
+use Rattle.belnap.specs.Belnap.{for, against, grants, andOf, orOf, consensusOf, gatherOf, impliesOf, beforeOf, operateOf, settles}
 
 max-assoc : (a b c : ℕ) → max (max a b) c ≡ max a (max b c)
 max-assoc a b c = omega arith
@@ -73,3 +74,14 @@ operate-lt k p q h g =
     (T-both (ltb (gatherOf p q) 4) _ (lt→ltb (gatherOf p q) 4 (omega arith))
     (T-both (ltb (impliesOf p q) 4) _ (lt→ltb (impliesOf p q) 4 (either-lt (grants p) q 1 g (omega arith)))
     (T-both (ltb (beforeOf p q) 4) _ (lt→ltb (beforeOf p q) 4 (either-lt (eqb p 0) q p g h)) tt)))))) tt)
+
+-- ---- where the first value decides, the second may be any
+pub settles-any : (k p q : ℕ) → p < 4 → q < 4 → settles k p ≡ true → operateOf k p q ≡ operateOf k p p
+unfolding settles operateOf
+settles-any zero p q h g e = let v = eqb→eq p 2 (is-T _ e) in omega arith
+settles-any (suc zero) p q h g e = let v = eqb→eq p 1 (is-T _ e) in omega arith
+settles-any (suc (suc zero)) p q h g e = let v = eqb→eq p 0 (is-T _ e) in omega arith
+settles-any (suc (suc (suc zero))) p q h g e = let v = eqb→eq p 3 (is-T _ e) in omega arith
+settles-any (suc (suc (suc (suc zero)))) p q h g e = let l = leb→le 2 p (is-T _ e) in rw (le-ltb p 2 l)
+settles-any (suc (suc (suc (suc (suc zero))))) p q h g e = let f : eqb p 0 ≡ false = fails refl e in rw f
+settles-any (suc (suc (suc (suc (suc (suc k)))))) p q h g e = refl

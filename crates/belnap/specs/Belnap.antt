@@ -1,9 +1,9 @@
 -- The four values. "Codes: 0 no decision, 1 yes, 2 no, 3 conflict. Bit 0 is evidence for, bit 1 evidence against."
 -- A bit is 0 or 1: of two bits, `min` is 1 if both are, `max` if either is. Assumes nothing.
 use Prim.Native.Nat.{ℕ, _+_, _*_, _/_, _%_, min, max}
-use mathlib.Core.Bool.{Bool, cond}
+use mathlib.Core.Bool.{Bool, false, cond, not}
 use mathlib.Core.List.{List, [], _∷_}
-use lib.Dec.{ltb, eqb}
+use lib.Dec.{ltb, leb, eqb}
 use lib.ListN.{getD}
 
 abbrev pub for : ℕ → ℕ
@@ -52,3 +52,8 @@ beforeOf p q = cond (eqb p 0) q p
 unfoldable pub operateOf : ℕ → ℕ → ℕ → ℕ
 operateOf k p q =
     getD (andOf p q ∷ orOf p q ∷ consensusOf p q ∷ gatherOf p q ∷ impliesOf p q ∷ beforeOf p q ∷ []) k 0
+
+-- the values that decide an operator alone, whatever the second value is: no for "and", yes for "or", no decision for consensus, conflict for
+-- gather, what does not grant for "implies", and all but no decision for "before"
+unfoldable pub settles : ℕ → ℕ → Bool
+settles k p = getD (eqb p 2 ∷ eqb p 1 ∷ eqb p 0 ∷ eqb p 3 ∷ leb 2 p ∷ not (eqb p 0) ∷ []) k false

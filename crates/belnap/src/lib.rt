@@ -2,7 +2,7 @@
 // operators are tables of constants; what they mean is said by the bit rules of specs/, and callers see those rules alone.
 ghost use mathlib.Core.Path.{_≡_};
 ghost use Prim.Native.Nat.{_<_};
-ghost use Rattle.belnap.specs.Belnap.{grants, notOf, gatherOf, operateOf};
+ghost use Rattle.belnap.specs.Belnap.{grants, notOf, operateOf, settles};
 
 // Each a table of p (down) and q (across).
 const AND: [[u8; 4]; 4] = [[0, 0, 2, 2], [0, 1, 2, 3], [2, 2, 2, 2], [2, 3, 2, 3]];
@@ -34,14 +34,19 @@ pub fn operate(op: u8, p: u8, q: u8) -> u8
     }
 }
 
-// Gather keeps the bits that either has.
-pub fn gather(p: u8, q: u8) -> u8
-    requires { ⌜ (p < 4) × (q < 4) ⌝ }
-    ensures { λ r. ⌜ (r ≡ gatherOf p q) × (r < 4) ⌝ }
+// Whether the first value decides the operator, whatever the second is.
+pub fn settles(op: u8, p: u8) -> bool
+    requires { ⌜ op < 6 ⌝ }
+    ensures { λ r. ⌜ r ≡ settles op p ⌝ }
 {
-    let i = p as usize;
-    let j = q as usize;
-    GATHER[i][j]
+    match op {
+        0 => p == 2,
+        1 => p == 1,
+        2 => p == 0,
+        3 => p == 3,
+        4 => 2 <= p,
+        _ => p != 0,
+    }
 }
 
 // Not swaps the two bits.

@@ -1,5 +1,5 @@
 -- The variables of the parts of an action, as sets: a set has what some part speaks of, no variable is there twice exactly if the bits of the
--- parts are apart, and four fields are looked at one by one. Assumes nothing.
+-- parts are apart, and four fields are looked at one by one, in use or not where they are good. Assumes nothing.
 use mathlib.Core.Path.{_≡_, refl, sym, ap, _∙_}
 use mathlib.Core.Bool.{Bool, true, false, cond, not, _&&_, _||_, and-true}
 use mathlib.Core.List.{List, [], _∷_}
@@ -7,18 +7,20 @@ use Prim.Native.Nat.{ℕ, zero, suc, _+_, _^_, _≤_, _<_}
 use native.Mathlib.Nat.{zero-add}
 use native.Mathlib.Omega.{arith}
 use lib.Bits.{bitAnd, bitOr, or-lt, and-lt, or-zero-r, and-zero-r}
-use lib.Dec.{T, ltb, leb, eqb, leb→le, le→leb, eqb→eq}
-use lib.ListN.{length, getD, take}
+use lib.Dec.{T, ltb, leb, eqb, ltb→lt, leb→le, le→leb, eqb→eq}
+use lib.ListN.{length, getD, take, drop}
 use lib.Pow.{pow-lt}
-use lib.Seq.{take-nil}
-use borrow.Author.Tests.{eqb-true, eqb-false, ne-eqb, eq-eqb, ltb-true, ltb-false, lt-ltb}
-use Rattle.words.specs.Lists.{some, count}
+use borrow.Author.Tests.{eqb-true, eqb-false, ne-eqb, eq-eqb, ltb-true, ltb-false, le-leb}
+use Rattle.words.specs.Lists.{all, some, count}
+use Rattle.words.proofs.Lists.{all-getD}
 use Rattle.words.proofs.Truth.{both-T, T-both, is-T, both-right}
 use Rattle.words.proofs.Numbers.{written}
 use Rattle.net.specs.Records.{noOperand}
+use Rattle.net.specs.Net.{fieldsOf}
 use Rattle.net.specs.declared.Operand.{Operand}
-use Rattle.rulebook.specs.Parts.{speaks}
-use Rattle.format.specs.Steps.{inSet, bitOf, setOf, apart}
+use Rattle.net.specs.declared.Action.{Action}
+use Rattle.rulebook.specs.Parts.{tagsOf, operandOk, operandsOk, unused, speaks}
+use Rattle.format.specs.Steps.{inSet, Ranged, EachRanged, bitOf, setOf, apart, partsOk, operandsGood}
 use Rattle.format.proofs.Masks.{in-or, in-and, in-none, in-one, same-set}
 
 -- ---- how often a test holds
@@ -99,44 +101,82 @@ module _ (tag : ℕ) where
       T-both (eqb (bitAnd (bitOf tag x) (setOf tag l)) 0) (apart tag l) (is-T _ (eq-eqb (bitAnd (bitOf tag x) (setOf tag l)) 0 e))
       (once-apart l (λ v h. le→leb (count (speaks tag v) l) 1 (omega (arith, g v h))))
 
-  -- ---- the first n of four fields
-  abbrev pub bitIf : Bool → Operand → ℕ
-  bitIf used x = cond used (bitOf tag x) 0
-
-  pub set-four : (n : ℕ) (a b c d : Operand)
-      → bitOr (bitIf (ltb 0 n) a) (bitOr (bitIf (ltb 1 n) b) (bitOr (bitIf (ltb 2 n) c) (bitIf (ltb 3 n) d))) ≡ setOf tag (take n (a ∷ b ∷ c ∷ d ∷ []))
-  unfolding setOf
-  set-four zero a b c d = refl
-  set-four (suc zero) a b c d = refl
-  set-four (suc (suc zero)) a b c d = refl
-  set-four (suc (suc (suc zero))) a b c d = refl
-  set-four (suc (suc (suc (suc n)))) a b c d =
-      let m = suc (suc (suc (suc n))) in
-      simp (take-nil {A = Operand} n, lt-ltb 0 m (omega arith), lt-ltb 1 m (omega arith), lt-ltb 2 m (omega arith), lt-ltb 3 m (omega arith), or-zero-r)
-
+  -- ---- an array of four fields, from the bits that were found
   abbrev pub apartFour : ℕ → ℕ → ℕ → ℕ → Bool
   apartFour a b c d = eqb (bitAnd a (bitOr b (bitOr c d))) 0 && (eqb (bitAnd b (bitOr c d)) 0 && eqb (bitAnd c d) 0)
 
-  pub apart-four : (n : ℕ) (a b c d : Operand)
-      → apartFour (bitIf (ltb 0 n) a) (bitIf (ltb 1 n) b) (bitIf (ltb 2 n) c) (bitIf (ltb 3 n) d) ≡ apart tag (take n (a ∷ b ∷ c ∷ d ∷ []))
-  unfolding apart setOf
-  apart-four zero a b c d = refl
-  apart-four (suc zero) a b c d = simp (and-zero-r)
-  apart-four (suc (suc zero)) a b c d = simp (and-zero-r, or-zero-r, and-true)
-  apart-four (suc (suc (suc zero))) a b c d = simp (and-zero-r, or-zero-r, and-true)
-  apart-four (suc (suc (suc (suc n)))) a b c d =
-      let m = suc (suc (suc (suc n))) in
-      simp (take-nil {A = Operand} n, lt-ltb 0 m (omega arith), lt-ltb 1 m (omega arith), lt-ltb 2 m (omega arith), lt-ltb 3 m (omega arith), and-zero-r, or-zero-r, and-true)
+  module _ (f : List Operand) (four : length f ≡ 4) {p q r s : ℕ} (a : p ≡ bitOf tag (getD f 0 noOperand))
+      (b : q ≡ bitOf tag (getD f 1 noOperand)) (c : r ≡ bitOf tag (getD f 2 noOperand)) (d : s ≡ bitOf tag (getD f 3 noOperand)) where
+    pub set-steps : bitOr p (bitOr q (bitOr r s)) ≡ setOf tag f
+    unfolding setOf
+    set-steps = rw (a, b, c, d) (simp or-zero-r at (ap (setOf tag) (written noOperand 4 f four)))
 
-  -- ---- the same of an array of four, from the bits that were found
-  module _ (n : ℕ) (f : List Operand) (four : length f ≡ 4) {p q r s : ℕ} (a : p ≡ bitIf (ltb 0 n) (getD f 0 noOperand))
-      (b : q ≡ bitIf (ltb 1 n) (getD f 1 noOperand)) (c : r ≡ bitIf (ltb 2 n) (getD f 2 noOperand)) (d : s ≡ bitIf (ltb 3 n) (getD f 3 noOperand)) where
-    pub set-steps : bitOr p (bitOr q (bitOr r s)) ≡ setOf tag (take n f)
-    set-steps =
-        rw (a, b, c, d) (set-four n (getD f 0 noOperand) (getD f 1 noOperand) (getD f 2 noOperand) (getD f 3 noOperand))
-        ∙ ap (λ (l : List Operand). setOf tag (take n l)) (written noOperand 4 f four)
+    pub apart-steps : apartFour p q r s ≡ apart tag f
+    unfolding apart setOf
+    apart-steps = rw (a, b, c, d) (simp (or-zero-r, and-zero-r, and-true) at (ap (apart tag) (written noOperand 4 f four)))
 
-    pub apart-steps : apartFour p q r s ≡ apart tag (take n f)
-    apart-steps =
-        rw (a, b, c, d) (apart-four n (getD f 0 noOperand) (getD f 1 noOperand) (getD f 2 noOperand) (getD f 3 noOperand))
-        ∙ ap (λ (l : List Operand). apart tag (take n l)) (written noOperand 4 f four)
+-- ---- good operands: those with the tag of a variable have one of the eight, and those not in use are no variable
+module _ (tag : ℕ) (low : 0 < tag) where
+  unused-other : (x : Operand) → T (unused x) → eqb (x .tag) tag ≡ false
+  unused-other x t =
+      let q = eqb→eq (x .tag) 0 (both-T (eqb (x .tag) 0) (eqb (x .value) 0) t .0) in
+      ne-eqb (x .tag) tag (λ z. omega arith)
+
+  no-bit : (x : Operand) → T (unused x) → bitOf tag x ≡ 0
+  unfolding bitOf
+  no-bit x t = rw (unused-other x t)
+
+  set-none : (l : List Operand) → T (all unused l) → setOf tag l ≡ 0
+  unfolding setOf
+  set-none [] t = refl
+  set-none (x ∷ l) t = let q = both-T (unused x) (all unused l) t in rw (no-bit x (q .0), set-none l (q .1))
+
+  apart-none : (l : List Operand) → T (all unused l) → apart tag l ≡ true
+  unfolding apart
+  apart-none [] t = refl
+  apart-none (x ∷ l) t = let q = both-T (unused x) (all unused l) t in rw (no-bit x (q .0), apart-none l (q .1))
+
+  set-used : (n : ℕ) (l : List Operand) → T (all unused (drop n l)) → setOf tag (take n l) ≡ setOf tag l
+  unfolding setOf
+  set-used zero l t = sym (set-none l t)
+  set-used (suc n) [] t = refl
+  set-used (suc n) (x ∷ l) t = ap (bitOr (bitOf tag x)) (set-used n l t)
+
+  apart-used : (n : ℕ) (l : List Operand) → T (all unused (drop n l)) → apart tag (take n l) ≡ apart tag l
+  unfolding apart
+  apart-used zero l t = sym (apart-none l t)
+  apart-used (suc n) [] t = refl
+  apart-used (suc n) (x ∷ l) t = rw (set-used n l t, apart-used n l t)
+
+  module _ (high : tag ≤ 2) (tags : List ℕ) where
+    pub operand-ranged : (x : Operand) → T (operandOk tags x) → Ranged tag x
+    operand-ranged x t e =
+        ltb→lt (x .value) 8 (simp (ne-eqb (x .tag) 0 (λ z. omega arith), le-leb (x .tag) 2 (omega arith)) at (both-T (some (eqb (x .tag)) tags) _ t .1))
+
+    operands-ranged : (n : ℕ) (l : List Operand) → T (operandsOk tags n l) → EachRanged tag l
+    operands-ranged zero l t k e = absurd (eqb-false _ tag (unused-other (getD l k noOperand) (all-getD unused l k noOperand t tt)) e)
+    operands-ranged (suc n) [] t k e = omega arith
+    operands-ranged (suc n) (x ∷ l) t zero e =
+        operand-ranged x (both-T (operandOk tags x) _ (both-T (all (operandOk tags) (take (suc n) (x ∷ l))) _ t .0) .0) e
+    operands-ranged (suc n) (x ∷ l) t (suc k) e =
+        let q = both-T (all (operandOk tags) (take (suc n) (x ∷ l))) (all unused (drop n l)) t in
+        operands-ranged n l (T-both (all (operandOk tags) (take n l)) (all unused (drop n l)) (both-T (operandOk tags x) _ (q .0) .1) (q .1)) k e
+
+-- ---- an action with good operands: its four fields speak of what those in use do
+module _ (x : Action) (good : T (operandsGood x)) where
+  abbrev tags : List ℕ
+  tags = tagsOf (not (eqb (x .capability) 1)) false false
+
+  rest : T (all unused (drop (x .count) (x .fields)))
+  rest = both-T (all (operandOk tags) (take (x .count) (x .fields))) _ good .1
+
+  pub fields-ranged : (tag : ℕ) → 0 < tag → tag ≤ 2 → EachRanged tag (x .fields)
+  fields-ranged tag low high = operands-ranged tag low high tags (x .count) (x .fields) good
+
+  pub fields-set : setOf 2 (x .fields) ≡ setOf 2 (fieldsOf x)
+  fields-set = sym (set-used 2 (omega arith) (x .count) (x .fields) rest)
+
+  pub fields-parts : (bound : ℕ) (target : Operand) → partsOk bound target (x .fields) ≡ partsOk bound target (fieldsOf x)
+  unfolding partsOk
+  fields-parts bound target =
+      sym (rw (set-used 1 (omega arith) (x .count) (x .fields) rest, set-used 2 (omega arith) (x .count) (x .fields) rest, apart-used 2 (omega arith) (x .count) (x .fields) rest))

@@ -13,16 +13,17 @@ use lib.Dec.{T, ltb, eqb, leb→le}
 use lib.ListN.{length, getD, take}
 use lib.Seq.{getD-take, length-take-le, take-suc}
 use borrow.Author.Tests.{eqb-true, eqb-false, ne-eqb, eq-eqb}
-use Rattle.words.specs.Lists.{firstBad, every, before, allOf}
+use Rattle.words.specs.Lists.{firstBad, every, before, all, allOf}
 use Rattle.words.proofs.Truth.{both-T, is-T, part}
-use Rattle.words.proofs.First.{first-none, first-more}
+use Rattle.words.proofs.First.{first-none, first-more, every-at}
+use Rattle.words.proofs.Lists.{all-of}
 use Rattle.words.proofs.Groups.{those-none, those-append}
 use Rattle.net.specs.Records.{noAction}
 use Rattle.net.specs.Net.{programLimit, actionAt, program, fieldsOf}
 use Rattle.net.specs.declared.Action.{Action}
-use Rattle.rulebook.specs.Parts.{tagsOf, operandOk, operandsOk, countOk, capabilityOk, ownerOk, roomOk}
+use Rattle.rulebook.specs.Parts.{tagsOf, operandOk, countOk, capabilityOk, ownerOk, roomOk}
 use Rattle.format.specs.Format.{actionRules, actionOk, variableOk}
-use Rattle.format.specs.Steps.{setOf, boundBy, partsOk, formRules}
+use Rattle.format.specs.Steps.{setOf, boundBy, partsOk, operandsGood, formRules}
 use Rattle.format.proofs.Order.{never-fell, owner-of}
 use Rattle.format.proofs.Parts.{parts}
 use Rattle.format.proofs.Programs.{bound-none, bound-more}
@@ -49,6 +50,14 @@ field-tags : (put : Bool) → cond put (0 ∷ 1 ∷ []) (0 ∷ 1 ∷ 2 ∷ []) �
 field-tags true = refl
 field-tags false = refl
 
+-- the operands of a good action are good, and those of good actions
+pub action-good : (sites : ℕ) (l : List Action) (k : ℕ) → actionOk sites l k ≡ true → T (operandsGood (actionAt l k))
+unfolding actionOk
+action-good sites l k e = rw (← field-tags (eqb (actionAt l k .capability) 1)) (part (actionRules sites l k (actionAt l k)) (is-T _ e) 6)
+
+pub actions-good : (sites : ℕ) (l : List Action) → T (every (actionOk sites l) (length l)) → T (all operandsGood l)
+actions-good sites l t = all-of operandsGood l noAction (λ k h. action-good sites l k (every-at (actionOk sites l) (length l) t k h))
+
 module _ (sites : ℕ) (l : List Action) (k : ℕ) where
   abbrev here : Action
   here = actionAt l k
@@ -65,7 +74,7 @@ module _ (sites : ℕ) (l : List Action) (k : ℕ) where
       ∷ capabilityOk (here .capability)
       ∷ countOk (here .count)
       ∷ operandOk (tagsOf false false false) (here .target)
-      ∷ operandsOk (tagsOf (not (eqb (here .capability) 1)) false false) (here .count) (here .fields)
+      ∷ operandsGood here
       ∷ []
 
   -- the rules of action k, with the variables that its program binds so far as a set

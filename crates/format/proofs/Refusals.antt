@@ -7,17 +7,20 @@ use Prim.Native.Nat.{ℕ, _*_, _/_, _≤_, _<_}
 use native.Mathlib.Omega.{arith}
 use lib.Dec.{ltb}
 use lib.ListN.{length, length-take, length-drop}
-use Rattle.words.specs.Lists.{firstBad}
+use Rattle.words.specs.Lists.{firstBad, all}
 use Rattle.words.specs.Tables.{tableOf, Ordered}
+use Rattle.words.proofs.Truth.{T-is}
 use Rattle.words.proofs.Tables.{table-length}
 use Rattle.net.specs.Records.{siteWidth, nodeWidth, aspectWidth, actionWidth, rowWidth, readSite, readNode, readAspect, readAction, readRow}
-use Rattle.net.specs.Net.{mostNodes, names}
+use Rattle.net.specs.Net.{mostNodes, names, Rising}
 use Rattle.net.specs.Image.{widthOf, mostOf, contentsOk, bodyIn, sitesIn, nodesIn, aspectsIn, actionsIn, rowsIn, stateIn, rulesIn}
 use Rattle.net.proofs.Bodies.{most-length, entry-of, body-length}
 use Rattle.rulebook.specs.Rulebook.{nodeOk, aspectOk}
 use Rattle.format.specs.Format.{siteOk, actionOk, rowOk, stateOk}
 use Rattle.format.specs.Verdict.{badSite, badNode, badAspect, badAction, badRow, badState}
-use Rattle.format.proofs.Ordered.{actions-sorted, actions-ordered}
+use Rattle.format.specs.Steps.{operandsGood}
+use Rattle.format.proofs.Earlier.{actions-good}
+use Rattle.format.proofs.Ordered.{names-rise, actions-sorted, actions-ordered}
 use Rattle.format.proofs.Verdicts.{bad-none}
 
 -- ---- how long parts are
@@ -41,6 +44,12 @@ module _ (s : List ℕ) {sites : List ℕ} (p : sites ≡ bodyIn s 1) where
 
   pub site-is : {r : ℕ} → r ≡ firstBad (siteOk (sitesIn sites)) (length (sitesIn sites)) → r ≡ badSite (stateIn s)
   site-is e = e ∙ rw p
+
+  -- where no site is bad their names rise
+  pub then-rising : ltb (badSite (stateIn s)) (length (sitesIn (bodyIn s 1))) ≡ false → Rising (names (sitesIn sites))
+  then-rising e =
+      let l = sitesIn (bodyIn s 1) in
+      rw p (names-rise l (bad-none (siteOk l) (length l) e))
 
   module _ {nodes : List ℕ} (q : nodes ≡ bodyIn s 2) where
     pub nodes-are : length nodes / nodeWidth ≡ length (nodesIn (bodyIn s 2))
@@ -72,6 +81,13 @@ module _ (s : List ℕ) {sites : List ℕ} (p : sites ≡ bodyIn s 1) where
         let n = length (sitesIn (bodyIn s 1)) in
         let l = actionsIn (bodyIn s 4) in
         rw q (actions-ordered (bodyIn s 4) (actions-sorted n l (bad-none (actionOk n l) (length l) e)))
+
+    -- and their operands are good
+    pub then-good : ltb (badAction (stateIn s)) (length (actionsIn (bodyIn s 4))) ≡ false → all operandsGood (actionsIn actions) ≡ true
+    then-good e =
+        let n = length (sitesIn (bodyIn s 1)) in
+        let l = actionsIn (bodyIn s 4) in
+        rw q (T-is (all operandsGood l) (actions-good n l (bad-none (actionOk n l) (length l) e)))
 
   module _ {rows : List ℕ} (q : rows ≡ bodyIn s 5) where
     pub rows-are : length rows / rowWidth ≡ length (rowsIn (bodyIn s 5))

@@ -1,15 +1,17 @@
 -- How the code goes through the rules, for its contracts: it keeps variables as sets, a bit for each of the eight, where the rule
 -- `variableOk` speaks of each variable by itself, and gives the last part of the verdict by itself. Theorems say that all this comes to the
 -- rules of `Format` and `Verdict`. Assumes nothing.
-use Prim.Native.Nat.{ℕ, _/_, _%_, _^_}
+use Prim.Native.Nat.{ℕ, _/_, _%_, _^_, _<_}
+use mathlib.Core.Path.{_≡_}
 use mathlib.Core.Bool.{Bool, true, false, cond, not, _&&_}
 use mathlib.Core.List.{List, [], _∷_}
 use lib.Dec.{ltb, eqb}
-use lib.ListN.{length}
+use lib.ListN.{length, getD}
 use lib.Bits.{bitAnd, bitOr}
 use Rattle.net.specs.declared.Operand.{Operand}
 use Rattle.net.specs.declared.Action.{Action}
 use Rattle.rulebook.specs.Parts.{tagsOf, operandOk, operandsOk, countOk, capabilityOk}
+use Rattle.net.specs.Records.{noOperand}
 use Rattle.net.specs.Net.{State, fieldsOf}
 use Rattle.format.specs.Verdict.{badAction, badRow, badState}
 use Rattle.format.specs.declared.Verdict.{Verdict}
@@ -19,7 +21,14 @@ use Rattle.format.specs.declared.Verdict.the-variants.{Accepted, BadActi
 abbrev pub inSet : ℕ → ℕ → Bool
 inSet m v = eqb (m / 2 ^ v % 2) 1
 
--- the variable of a part of an action that has this tag; those of some parts
+-- where a part of an action has this tag its value is one of the eight; so it is of each of some parts
+abbrev pub Ranged : ℕ → Operand → Type 0
+Ranged tag x = x .tag ≡ tag → x .value < 8
+
+abbrev pub EachRanged : ℕ → List Operand → Type 0
+EachRanged tag l = (k : ℕ) → Ranged tag (getD l k noOperand)
+
+-- the variable of a part that has this tag; those of some parts
 unfoldable pub bitOf : ℕ → Operand → ℕ
 bitOf tag x = cond (eqb (x .tag) tag && ltb (x .value) 8) (2 ^ x .value) 0
 
@@ -43,6 +52,10 @@ partsOk bound target l =
     let uses = bitOr (bitOf 1 target) (setOf 1 l) in
     apart 2 l && (eqb (bitAnd uses (setOf 2 l)) 0 && eqb (bitAnd uses bound) uses)
 
+-- the fields of an action are good: those in use as its capability has them, the others 0
+abbrev pub operandsGood : Action → Bool
+operandsGood x = operandsOk (tagsOf (not (eqb (x .capability) 1)) false false) (x .count) (x .fields)
+
 -- the rules of an action by itself, where `bound` has the variables that its program's earlier actions bind
 abbrev pub formRules : ℕ → Action → List Bool
 formRules bound x =
@@ -50,7 +63,7 @@ formRules bound x =
     ∷ capabilityOk (x .capability)
     ∷ countOk (x .count)
     ∷ operandOk (tagsOf false false false) (x .target)
-    ∷ operandsOk (tagsOf (not (eqb (x .capability) 1)) false false) (x .count) (x .fields)
+    ∷ operandsGood x
     ∷ partsOk bound (x .target) (fieldsOf x)
     ∷ []
 

@@ -43,7 +43,7 @@ fn form_ok(bound: u8, x: Action) -> bool
             && (count_ok(x.count)
                 && (operand_ok(x.target, false, false, false)
                     && (operands_ok(f, x.count, x.capability != 1, false, false)
-                        && parts_ok(bound, x.target, x.count, f)))))
+                        && parts_ok(bound, x.target, f)))))
 }
 
 // Whether action k is good, after actions whose owners never fall and that bind `bound` where they are of its program.
@@ -69,7 +69,7 @@ pub fn first_bad_action(actions: &[u8], sites: usize) -> usize
             return k;
         }
         let f = x.fields;
-        bound = bound_too(earlier, x.count, f);
+        bound = bound_too(earlier, f);
         last = x.owner;
         k += 1;
     }

@@ -1,15 +1,15 @@
 // The state of each site: its position lies in its program, and a variable is set exactly when an action before the position binds it.
 ghost use mathlib.Core.Path.{_≡_};
-ghost use mathlib.Core.Bool.{not, Bool·beq};
+ghost use mathlib.Core.Bool.{true, not, Bool·beq};
 ghost use Prim.Native.Nat.{_+_, _*_, _-_, _≤_};
 ghost use lib.Dec.{eqb};
 ghost use lib.ListN.{length, getD, take, drop};
-ghost use Rattle.words.specs.Lists.{firstBad, every, allOf};
+ghost use Rattle.words.specs.Lists.{firstBad, every, all, allOf};
 ghost use Rattle.words.specs.Tables.{Ordered};
 ghost use Rattle.net.specs.Records.{actionWidth};
 ghost use Rattle.net.specs.Image.{sitesIn, actionsIn};
 ghost use Rattle.format.specs.Format.{placed, stateOk};
-ghost use Rattle.format.specs.Steps.{inSet, boundBy};
+ghost use Rattle.format.specs.Steps.{inSet, boundBy, operandsGood};
 use crate::contents::ACTION_WIDTH;
 use crate::contents::SITE_WIDTH;
 use crate::variables::bound_too;
@@ -18,9 +18,9 @@ use net::action_at;
 use net::site_at;
 use words::count_below;
 
-// The variables that n actions bind, from action `from` on.
+// The variables that n actions bind, from action `from` on. The operands of the actions are good.
 fn bound_by(actions: &[u8], from: usize, n: usize) -> u8
-    requires { ⌜ actionWidth * (from + n) ≤ length (now actions) ⌝ }
+    requires { ⌜ (actionWidth * (from + n) ≤ length (now actions)) × (all operandsGood (actionsIn (now actions)) ≡ true) ⌝ }
     ensures { λ r. ⌜ r ≡ boundBy (take n (drop from (actionsIn (now (actions .entry))))) ⌝ }
 {
     let mut bound = 0;
@@ -28,7 +28,7 @@ fn bound_by(actions: &[u8], from: usize, n: usize) -> u8
     while j < n {
         let x = action_at(actions, ACTION_WIDTH * (from + j));
         let f = x.fields;
-        bound = bound_too(bound, x.count, f);
+        bound = bound_too(bound, f);
         j += 1;
     }
     bound
@@ -50,7 +50,7 @@ fn set_right(vars: [u16; 8], bound: u8) -> bool
 
 // Whether the state of a site is good whose program is the actions from..to.
 fn state_ok(actions: &[u8], from: usize, to: usize, x: Site) -> bool
-    requires { ⌜ (from ≤ to) × (actionWidth * to ≤ length (now actions)) ⌝ }
+    requires { ⌜ (from ≤ to) × (actionWidth * to ≤ length (now actions)) × (all operandsGood (actionsIn (now actions)) ≡ true) ⌝ }
     ensures { λ r. ⌜ r ≡ allOf (placed (take (to - from) (drop from (actionsIn (now (actions .entry))))) (x .position) (x .vars)) ⌝ }
 {
     let position = x.position as usize;
@@ -58,9 +58,10 @@ fn state_ok(actions: &[u8], from: usize, to: usize, x: Site) -> bool
     position <= to - from && set_right(vars, bound_by(actions, from, position))
 }
 
-// The number of the first site whose state is bad, or how many sites there are. The actions are in the order of their owners.
+// The number of the first site whose state is bad, or how many sites there are. The actions are in the order of their owners, and their
+// operands are good.
 pub fn first_bad_state(sites: &[u8], actions: &[u8]) -> usize
-    requires { ⌜ Ordered actionWidth (now actions) ⌝ }
+    requires { ⌜ Ordered actionWidth (now actions) × (all operandsGood (actionsIn (now actions)) ≡ true) ⌝ }
     ensures { λ r. ⌜ (r ≡ firstBad (stateOk (actionsIn (now (actions .entry))) (sitesIn (now (sites .entry)))) (length (sitesIn (now (sites .entry))))) × (r ≤ length (sitesIn (now (sites .entry)))) ⌝ }
 {
     let n = sites.len() / SITE_WIDTH;

@@ -6,15 +6,16 @@ use Prim.Native.Nat.{ℕ, _+_, _-_, _*_, _/_, _≤_, _<_}
 use native.Mathlib.Omega.{arith}
 use lib.Dec.{ltb, eqb}
 use lib.ListN.{length, getD, length-map}
-use borrow.Author.Tests.{lt-ltb, le-ltb}
+use borrow.Author.Tests.{lt-ltb, le-ltb, ltb-true}
 use Rattle.words.specs.Tables.{Ordered, countBelow}
 use Rattle.words.specs.declared.Found.{Found}
 use Rattle.words.specs.declared.Found.the-variants.{At, Nothing}
+use Rattle.words.proofs.Truth.{no}
 use Rattle.words.proofs.First.{found-at}
 use Rattle.words.proofs.Tables.{table-length, table-at}
 use Rattle.belnap.specs.Belnap.{grants}
 use Rattle.net.specs.Records.{siteWidth, actionWidth, noSite, noAction, readSite, readAction}
-use Rattle.net.specs.Net.{State, Rules, siteAt, actionAt, program, names, placeOf}
+use Rattle.net.specs.Net.{mostSites, State, Rules, siteAt, actionAt, program, names, placeOf}
 use Rattle.net.specs.Image.{mostOf, contentsOk, bodyIn, sitesIn, nodesIn, aspectsIn, actionsIn, rowsIn, stateIn, rulesIn}
 use Rattle.net.specs.declared.Site.{Site}
 use Rattle.net.specs.declared.Action.{Action}
@@ -27,17 +28,20 @@ use Rattle.policy.specs.House.{Act, actOf, rulesOf, judge}
 use Rattle.stepping.specs.Step.{Start, stop, go, resolvedAction, next, doing, going, start, oldest, refuse, put, getting, allowed, judged, planned, asking, isGranted}
 use Rattle.stepping.specs.declared.Answer.{Answer}
 use Rattle.stepping.specs.declared.Answer.the-variants.{Granted, Done, Denied, NoMatch, NoPlace, NoSite}
-use Rattle.monitor.specs.Plan.{toward, planIn}
+use Rattle.monitor.specs.Plan.{toward, nextIn, planIn}
 use Rattle.monitor.specs.declared.ask.Asked.{Asked}
-use Rattle.monitor.proofs.Stretches.{action-front, begins-ends, ends-within, owned-length, owned-at}
+use Rattle.monitor.proofs.Stretches.{action-front, ends-within, owned-length, owned-at}
 
 -- ---- an accepted image: its contents are in order, and its sites are few
 pub contents-of : (b : List ℕ) → verdictOf b ≡ Accepted → contentsOk b ≡ true
 contents-of b e = accepted-right b e .contents
 
-pub few-sites : (b : List ℕ) → verdictOf b ≡ Accepted → {t : ℕ} → t < length (stateIn b .sites) → t < 65536
+pub most-sites : (b : List ℕ) → verdictOf b ≡ Accepted → length (stateIn b .sites) ≤ mostSites
 unfolding mostOf
-few-sites b e h = let ok = contents-of b e in omega (arith, sites-count b ok, entry-of b ok 1 (omega arith) (omega arith) .most)
+most-sites b e = let ok = contents-of b e in omega (arith, sites-count b ok, entry-of b ok 1 (omega arith) (omega arith) .most)
+
+pub few-sites : (b : List ℕ) → verdictOf b ≡ Accepted → {t : ℕ} → t < length (stateIn b .sites) → t < 32
+few-sites b e h = omega (arith, most-sites b e)
 
 -- ---- an answer that is no grant
 pub plan-refused : (x : Asked) (i : ℕ) (a : Answer) → x .answer ≡ a → isGranted a ≡ false → planIn i x ≡ refuse a
@@ -57,13 +61,11 @@ module _ (i t : ℕ) (a : Action) (l : List Row) (n : eqb (a .capability) 1 ≡ 
   allowed-row k p q = rw (n, ← p, q)
 
 -- ---- step 4
-module _ (image : List ℕ) {sites nodes aspects rows : List ℕ} {value : ℕ} {g : Bool} (act : Act)
+module _ (image : List ℕ) {sites nodes aspects rows : List ℕ} {g : Bool} (act : Act)
     (e₁ : sites ≡ bodyIn image 1) (e₂ : nodes ≡ bodyIn image 2) (e₃ : aspects ≡ bodyIn image 3) (e₅ : rows ≡ bodyIn image 5)
-    (v : value ≡ judge (rulesOf (nodesIn nodes) (aspectsIn aspects)) (sitesIn sites) (rowsIn rows) act) (t : g ≡ grants value) where
+    (v : g ≡ grants (judge (rulesOf (nodesIn nodes) (aspectsIn aspects)) (sitesIn sites) (rowsIn rows) act)) where
   grants-is : g ≡ grants (judge (rulesIn image) (stateIn image .sites) (stateIn image .rows) act)
-  grants-is =
-      let e : value ≡ judge (rulesIn image) (stateIn image .sites) (stateIn image .rows) act = v ∙ rw (e₁, e₂, e₃, e₅) in
-      t ∙ ap grants e
+  grants-is = v ∙ rw (e₁, e₂, e₃, e₅)
 
   pub judged-granted : (x : Asked) (i : ℕ) → g ≡ true
       → planIn i x ≡ cond (eqb (act .action .capability) 1) (put act) (getting act (oldest (act .target) (act .action) (rowsIn rows)))
@@ -99,6 +101,15 @@ toward-going s i (At t) = refl
 toward-going s i Nothing = refl
 
 -- ---- steps 1 and 2
+-- a search that finds k exactly if b holds, by what it found
+none-of : (b : Bool) (k : ℕ) {f : Found} → f ≡ cond b (At k) Nothing → f ≡ Nothing → b ≡ false
+none-of true k e q = no (cc)
+none-of false k e q = refl
+
+some-of : (b : Bool) {j k : ℕ} {f : Found} → f ≡ cond b (At k) Nothing → f ≡ At j → (b ≡ true) × (j ≡ k)
+some-of true e q = (refl, cc)
+some-of false e q = no (cc)
+
 module _ (image : List ℕ) (i : ℕ) where
   abbrev s : State
   s = stateIn image
@@ -106,10 +117,10 @@ module _ (image : List ℕ) (i : ℕ) where
   abbrev b : List ℕ
   b = bodyIn image 4
 
-  abbrev pub first : ℕ
+  abbrev first : ℕ
   first = countBelow b 24 (length b / 24) i
 
-  abbrev pub end : ℕ
+  abbrev end : ℕ
   end = countBelow b 24 (length b / 24) (i + 1)
 
   -- the site, read at its place
@@ -121,30 +132,44 @@ module _ (image : List ℕ) (i : ℕ) where
   unfolding asking start
   asked-no-site x h e = rw (le-ltb i (length (s .sites)) h) (plan-refused x i NoSite e refl)
 
-  module _ (h : i < length (s .sites)) (order : Ordered actionWidth b) where
-    pub program-up : first ≤ end
-    program-up = begins-ends (λ y. y .owner) noAction readAction action-front actionWidth b order i
+  -- what the search for the next action finds
+  module _ (h : i < length (s .sites)) (order : Ordered actionWidth b) {site : Site} {actions : List ℕ} {f : Found} (e₁ : site ≡ siteAt (s .sites) i) (e₄ : actions ≡ b)
+      (e : f ≡ nextIn actions i (site .position)) where
+    abbrev p : ℕ
+    p = siteAt (s .sites) i .position
 
-    program-length : length (program i (s .actions)) ≡ end - first
-    program-length = owned-length (λ y. y .owner) noAction readAction action-front actionWidth b order i
+    abbrev many : ℕ
+    many = length (program i (s .actions))
 
-    pub asked-done : (x : Asked) → end - first ≤ siteAt (s .sites) i .position → x .answer ≡ Done → planIn i x ≡ asking (rulesIn image) s i
+    found-is : f ≡ nextIn b i p
+    found-is = e ∙ rw (e₁, e₄)
+
+    pub asked-done : f ≡ Nothing → (x : Asked) → x .answer ≡ Done → planIn i x ≡ asking (rulesIn image) s i
     unfolding asking start
-    asked-done x p e =
-        rw (lt-ltb i (length (s .sites)) h, program-length, le-ltb (siteAt (s .sites) i .position) (end - first) p) (plan-refused x i Done e refl)
+    asked-done q x r = rw (lt-ltb i (length (s .sites)) h, none-of (ltb p many) (first + p) found-is q) (plan-refused x i Done r refl)
 
-    module _ (p : siteAt (s .sites) i .position < end - first) where
+    module _ {k : ℕ} (q : f ≡ At k) where
+      goes-on : ltb p many ≡ true
+      goes-on = some-of (ltb p many) found-is q .0
+
+      inside : p < end - first
+      inside = rw (owned-length (λ y. y .owner) noAction readAction action-front actionWidth b order i) at (ltb-true p many goes-on)
+
       -- the next action lies within, at its place
-      pub next-inside : 24 * (first + siteAt (s .sites) i .position) + 24 ≤ length b
-      next-inside = let w = ends-within (λ y. y .owner) noAction readAction action-front actionWidth b order i in omega arith
+      pub next-inside : k < length actions / 24
+      next-inside =
+          let w = ends-within (λ y. y .owner) noAction readAction action-front actionWidth b order i in
+          let l = some-of (ltb p many) found-is q .1 in
+          let m = inside in
+          rw e₄ (omega arith)
 
-      next-read : actionAt (program i (s .actions)) (siteAt (s .sites) i .position) ≡ readAction b (24 * (first + siteAt (s .sites) i .position))
-      next-read = owned-at (λ y. y .owner) noAction readAction action-front actionWidth b order i (siteAt (s .sites) i .position) p
+      next-read : actionAt (program i (s .actions)) p ≡ readAction actions (24 * k)
+      next-read = owned-at (λ y. y .owner) noAction readAction action-front actionWidth b order i p inside ∙ rw (some-of (ltb p many) found-is q .1, e₄)
 
-      pub asked-next : (x : Asked) (a : Action) → a ≡ resolvedAction (siteAt (s .sites) i .vars) (readAction b (24 * (first + siteAt (s .sites) i .position)))
+      pub asked-next : (x : Asked) (a : Action) → a ≡ resolvedAction (site .vars) (readAction actions (24 * k))
           → planIn i x ≡ planned (rulesIn image) s (toward i a (placeOf (names (s .sites)) (a .target .value))) → planIn i x ≡ asking (rulesIn image) s i
       unfolding asking start
-      asked-next x a e q =
-          let n : a ≡ next s i = e ∙ ap (resolvedAction (siteAt (s .sites) i .vars)) (sym next-read) in
-          rw (lt-ltb i (length (s .sites)) h, program-length, lt-ltb (siteAt (s .sites) i .position) (end - first) p)
-          (q ∙ ap (planned (rulesIn image) s) (ap (λ (y : Action). toward i y (placeOf (names (s .sites)) (y .target .value))) n ∙ toward-going s i (placeOf (names (s .sites)) (next s i .target .value))))
+      asked-next x a r w =
+          let n : a ≡ next s i = r ∙ rw (e₁, ← next-read) in
+          rw (lt-ltb i (length (s .sites)) h, goes-on)
+          (w ∙ ap (planned (rulesIn image) s) (ap (λ (y : Action). toward i y (placeOf (names (s .sites)) (y .target .value))) n ∙ toward-going s i (placeOf (names (s .sites)) (next s i .target .value))))

@@ -5,11 +5,12 @@ use mathlib.Core.List.{List}
 use Prim.Native.Nat.{ℕ, suc, _<_}
 use lib.Dec.{T, eqb}
 use lib.ListN.{length}
+use borrow.Author.Tests.{eqb-true}
 use Rattle.words.specs.Lists.{all}
 use Rattle.words.specs.Bytes.{Bytes}
-use Rattle.words.proofs.Truth.{no}
+use Rattle.words.proofs.Truth.{no, both-left}
 use Rattle.net.specs.Records.{siteFits}
-use Rattle.net.specs.Net.{State, Rules}
+use Rattle.net.specs.Net.{State, Rules, rowAt}
 use Rattle.policy.specs.House.{Act, actOf}
 use Rattle.format.specs.Format.{wellFormed}
 use Rattle.format.proofs.Verdicts.{formed-fits}
@@ -96,6 +97,11 @@ module _ (m : List ℕ) (g : Bytes m) (e : holdsNet m ≡ true) (i : ℕ) (x : A
 
     pub get-row : x .row < length (s .rows)
     get-row = chosen-hits act (s .rows) (x .row) (asked-get r s i act (x .row) (sym get-is) .row) .0
+
+    pub get-owner : rowAt (s .rows) (x .row) .owner ≡ x .target
+    get-owner =
+        let h = chosen-hits act (s .rows) (x .row) (asked-get r s i act (x .row) (sym get-is) .row) .1 in
+        eqb-true (rowAt (s .rows) (x .row) .owner) (x .target) (both-left (eqb (rowAt (s .rows) (x .row) .owner) (x .target)) _ h)
 
     pub get-fits : T (all siteFits (gotAfter s act (x .row) .sites))
     get-fits = fits-after (get act (x .row)) get-is

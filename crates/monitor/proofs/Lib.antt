@@ -5,5 +5,7 @@ pub mod Readiness
 pub mod Acting
 pub mod Asking
 pub mod Doing
+pub mod Starts
+pub mod Recounting
 pub mod Running
 pub mod Calls

@@ -1,5 +1,5 @@
--- The records of one owner, in the bytes of a body whose owners never fall: where they begin and end is what the search by halving finds.
--- Assumes nothing.
+-- The records of one owner, in the bytes of a body whose owners never fall: where they begin and end is what the search by halving finds, and
+-- from one of the two places on the first bytes of the records tell the other. Assumes nothing.
 use mathlib.Core.Path.{_≡_, refl, sym, ap, _∙_}
 use mathlib.Core.Bool.{Bool, true, false}
 use mathlib.Core.List.{List}
@@ -9,16 +9,16 @@ use native.Mathlib.Omega.{arith}
 use lib.Dec.{ltb, leb, eqb, ltb→lt, lt→ltb, leb→le, le→leb}
 use lib.ListN.{length, getD, take, drop, length-drop}
 use lib.Seq.{getD-take, getD-drop, length-take-le}
-use borrow.Author.Tests.{eq-eqb, ne-eqb}
-use Rattle.words.specs.Lists.{firstBad, count, those}
+use borrow.Author.Tests.{ltb-true, ltb-false, leb-true, leb-false, eq-eqb, ne-eqb}
+use Rattle.words.specs.Lists.{count, those}
 use Rattle.words.specs.Tables.{tableOf, Ordered, countBelow}
 use Rattle.words.proofs.Truth.{same-truth}
 use Rattle.words.proofs.First.{first-same}
 use Rattle.words.proofs.Tables.{table-length, table-at}
-use Rattle.words.proofs.Groups.{below, smaller, larger, between, low-high, high-length, group, group-count, table-below, table-sorted}
-use Rattle.net.specs.Records.{actionWidth, rowWidth, noAction, noRow, readAction, readRow}
-use Rattle.net.specs.Net.{actionAt, rowAt, program, held}
-use Rattle.net.specs.Image.{actionsIn, rowsIn}
+use Rattle.words.proofs.Groups.{Sorted, below, smaller, larger, between, low-high, high-length, group, group-count, table-below, table-sorted}
+use Rattle.net.specs.Records.{rowWidth, noRow, readAction, readRow}
+use Rattle.net.specs.Net.{rowAt}
+use Rattle.net.specs.Image.{rowsIn}
 use Rattle.stepping.specs.Step.{placeFor}
 
 -- ---- any kind of record that begins with its owner
@@ -39,30 +39,40 @@ module _ {A : Type 0} (f : A → ℕ) (d : A) (read : List ℕ → ℕ → A) (f
   ends-is : ends ≡ below f d records (suc t)
   ends-is = table-below f d read front w s (t + 1) ∙ ap (below f d records) (add-one t)
 
+  sorted : Sorted f d records
+  sorted = table-sorted f d read front w s order
+
   pub begins-ends : begins ≤ ends
-  begins-ends = rw (begins-is, ends-is) (low-high f d records (table-sorted f d read front w s order) t)
+  begins-ends = rw (begins-is, ends-is) (low-high f d records sorted t)
 
   pub ends-within : ends ≤ length s / w
-  ends-within = rw (ends-is, ← table-length read w s) (high-length f d records (table-sorted f d read front w s order) t)
+  ends-within = rw (ends-is, ← table-length read w s) (high-length f d records sorted t)
 
-  pub before-misses : (k : ℕ) → k < begins → eqb (f (getD records k d)) t ≡ false
-  before-misses k h =
-      let g = smaller f d records (table-sorted f d read front w s order) t k (rw begins-is at h) in
-      ne-eqb (f (getD records k d)) t (λ e. omega arith)
+  -- before the end of the stretch, a record is the owner's exactly if it is not before the stretch
+  pub owner-back : (k : ℕ) → k < ends → eqb (getD s (w * k) 0) t ≡ leb begins k
+  owner-back k h = rw (← front s (w * k), ← table-at read w s k d (let b = ends-within in omega arith)) (pick (leb begins k) refl)
+    where
+      pick : (b : Bool) → leb begins k ≡ b → eqb (f (getD records k d)) t ≡ b
+      pick true e = eq-eqb _ t (between f d records sorted t k (rw begins-is at (leb-true begins k e)) (rw ends-is at h))
+      pick false e =
+          let g = smaller f d records sorted t k (rw begins-is at (leb-false begins k e)) in
+          ne-eqb (f (getD records k d)) t (λ q. omega arith)
 
-  pub inside-stands : (k : ℕ) → begins ≤ k → k < ends → eqb (f (getD records k d)) t ≡ true
-  inside-stands k h b = eq-eqb (f (getD records k d)) t (between f d records (table-sorted f d read front w s order) t k (rw begins-is at h) (rw ends-is at b))
+  -- from its beginning on, exactly if it is not after it
+  pub owner-on : (k : ℕ) → begins ≤ k → k < length s / w → eqb (getD s (w * k) 0) t ≡ ltb k ends
+  owner-on k h b = rw (← front s (w * k), ← table-at read w s k d b) (pick (ltb k ends) refl)
+    where
+      pick : (c : Bool) → ltb k ends ≡ c → eqb (f (getD records k d)) t ≡ c
+      pick true e = eq-eqb _ t (between f d records sorted t k (rw begins-is at h) (rw ends-is at (ltb-true k ends e)))
+      pick false e =
+          let g = larger f d records sorted t (suc t) k (rw ends-is at (ltb-false k ends e)) (rw (table-length read w s) b) in
+          ne-eqb (f (getD records k d)) t (λ q. omega arith)
 
-  pub after-misses : (k : ℕ) → ends ≤ k → k < length s / w → eqb (f (getD records k d)) t ≡ false
-  after-misses k h b =
-      let g = larger f d records (table-sorted f d read front w s order) t (suc t) k (rw ends-is at h) (rw (table-length read w s) b) in
-      ne-eqb (f (getD records k d)) t (λ e. omega arith)
-
-  pub owned : those (λ x. eqb (f x) t) records ≡ take (ends - begins) (drop begins records)
-  owned = rw (begins-is, ends-is) (group f d records (table-sorted f d read front w s order) t)
+  owned : those (λ x. eqb (f x) t) records ≡ take (ends - begins) (drop begins records)
+  owned = rw (begins-is, ends-is) (group f d records sorted t)
 
   pub owned-count : count (λ x. eqb (f x) t) records ≡ ends - begins
-  owned-count = rw (begins-is, ends-is) (group-count f d records (table-sorted f d read front w s order) t)
+  owned-count = rw (begins-is, ends-is) (group-count f d records sorted t)
 
   pub owned-length : length (those (λ x. eqb (f x) t) records) ≡ ends - begins
   owned-length =

@@ -6,8 +6,10 @@ use mathlib.Core.List.{List, [], _∷_, _++_, map}
 use lib.Dec.{ltb, eqb}
 use lib.ListN.{length, take, drop}
 use Rattle.words.specs.Bytes.{Bytes, allZero, padded, splice}
+use Rattle.words.specs.Tables.{startsOf}
+use Rattle.net.specs.Records.{rowWidth}
 use Rattle.net.specs.Net.{State, Rules, Net}
-use Rattle.net.specs.Image.{memorySize, memoryOf, endIn, stateIn, rulesIn}
+use Rattle.net.specs.Image.{memorySize, memoryOf, endIn, bodyIn, stateIn, rulesIn}
 use Rattle.format.specs.Verdict.{isAccepted, verdictOf}
 use Rattle.format.specs.declared.Verdict.{Verdict}
 use Rattle.format.specs.declared.Verdict.the-variants.{Accepted, Small}
@@ -46,6 +48,10 @@ rulesHeld m = rulesIn (imageIn m)
 
 abbrev pub stateHeld : List ℕ → State
 stateHeld m = stateIn (imageIn m)
+
+-- where its rows start, site by site
+abbrev pub startsHeld : List ℕ → List ℕ
+startsHeld m = startsOf rowWidth (bodyIn (imageIn m) 5)
 
 -- memory that holds these rules and this state
 abbrev pub memoryWith : Rules → State → List ℕ

@@ -1,16 +1,16 @@
--- What the code's answer to asking stands for, and what acting on it reads. Assumes nothing.
+-- What the code's answer to asking stands for, what acting on it reads, and how the starts of rows follow it. Assumes nothing.
 use mathlib.Core.Path.{_≡_}
-use Prim.Native.Nat.{ℕ, suc, _<_}
+use Prim.Native.Nat.{ℕ, suc, _+_, _-_, _/_, _≤_, _<_}
 use mathlib.Core.Bool.{true, cond}
 use mathlib.Core.List.{List}
 use lib.Dec.{ltb, eqb}
-use lib.ListN.{length}
+use lib.ListN.{length, getD}
 use Rattle.words.specs.declared.Found.{Found}
 use Rattle.words.specs.declared.Found.the-variants.{At, Nothing}
-use Rattle.words.specs.Tables.{Ordered}
-use Rattle.net.specs.Records.{rowWidth}
-use Rattle.net.specs.Net.{State, storeLimit, siteAt, held}
-use Rattle.net.specs.Image.{contentsOk, bodyIn, stateIn}
+use Rattle.words.specs.Tables.{Ordered, countBelow, startsMore, startsLess}
+use Rattle.net.specs.Records.{actionWidth, rowWidth}
+use Rattle.net.specs.Net.{State, storeLimit, siteAt, program, held}
+use Rattle.net.specs.Image.{contentsOk, bodyIn, actionsIn, stateIn}
 use Rattle.net.specs.declared.Action.{Action}
 use Rattle.net.specs.declared.Site.{Site}
 use Rattle.policy.specs.House.{Act, actOf}
@@ -24,6 +24,10 @@ use Rattle.monitor.specs.declared.act.Writes.{Writes}
 abbrev pub toward : ℕ → Action → Found → Start
 toward i x (At t) = go (actOf i t x)
 toward i x Nothing = stop NoPlace
+
+-- where action number p of site i stands among the actions of a body, if i has so many
+abbrev pub nextIn : List ℕ → ℕ → ℕ → Found
+nextIn b i p = cond (ltb p (length (program i (actionsIn b)))) (At (countBelow b actionWidth (length b / actionWidth) i + p)) Nothing
 
 -- the plan of site i that an answer stands for
 unfoldable pub planIn : ℕ → Asked → Plan
@@ -61,3 +65,18 @@ pub record Ready (m : List ℕ) (i t : ℕ) : Type 0 where
   pub source : i < length (stateHeld m .sites)
   pub target : t < length (stateHeld m .sites)
   pub small : suc (siteAt (stateHeld m .sites) i .position) < 65536
+
+-- ---- the starts of rows after a grant at site t: a put with room for its row adds one, a take takes one out
+unfoldable pub startsAfter : ℕ → ℕ → List ℕ → List ℕ
+startsAfter capability t l =
+    cond (eqb capability 1)
+    (cond (ltb (getD l (t + 1) 0 - getD l t 0) storeLimit) (startsMore t l) l)
+    (cond (eqb capability 2) (startsLess t l) l)
+
+-- starts that can be so changed
+pub record Countable (capability t : ℕ) (l : List ℕ) : Type 0 where
+  pub wide : length l ≡ 33
+  pub site : t < 32
+  pub rises : getD l t 0 ≤ getD l (t + 1) 0
+  pub more : (u : ℕ) → getD l u 0 < 65535
+  pub less : capability ≡ 2 → (u : ℕ) → t < u → u < 33 → 0 < getD l u 0

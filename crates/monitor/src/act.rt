@@ -102,7 +102,7 @@ fn remove_row(memory: &mut [u8], base: usize, n: usize, k: usize)
 }
 
 // The most rows of a store.
-const STORE: usize = 16;
+pub const STORE: usize = 16;
 
 // The record of site i of an image.
 fn site_of(image: &[u8], i: usize) -> Site
@@ -130,18 +130,23 @@ pub struct Store {
     pub room: bool,
 }
 
-// The store of site t of an image.
+// The store of site t of an image: its rows end at `end`, and if the row STORE before that is t's too, it is full.
 fn store_of(image: &[u8], t: usize) -> Store
     requires { ⌜ (contentsOk (now image) ≡ true) × (t < 65536) × Ordered rowWidth (bodyIn (now image) 5) ⌝ }
     ensures { λ r. ⌜ (r .place ≡ placeFor t (stateIn (now (image .entry)) .rows)) × (r .room ≡ ltb (held t (stateIn (now (image .entry)) .rows)) storeLimit) ⌝ }
 {
     let rows = format::part(image, 5);
     let n = rows.len() / 10;
-    let first = words::count_below(rows, 10, n, t);
     let end = words::count_below(rows, 10, n, t + 1);
+    if end < STORE {
+        return Store {
+            place: end,
+            room: true,
+        };
+    }
     Store {
         place: end,
-        room: end - first < STORE,
+        room: rows[10 * (end - STORE)] as usize != t,
     }
 }
 

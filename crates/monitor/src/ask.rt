@@ -5,14 +5,14 @@ ghost use mathlib.Core.List.{map};
 ghost use Prim.Native.Nat.{ℕ, _<_};
 ghost use lib.Dec.{eqb};
 ghost use lib.ListN.{length, getD};
-ghost use Rattle.words.specs.Tables.{Ordered};
+ghost use Rattle.words.specs.Tables.{Ordered, startsOf};
 ghost use Rattle.net.specs.Net.{names, placeOf};
-ghost use Rattle.net.specs.Image.{stateIn, rulesIn, rowsIn};
+ghost use Rattle.net.specs.Image.{bodyIn, stateIn, rulesIn, rowsIn};
 ghost use Rattle.format.specs.Verdict.{verdictOf};
 ghost use Rattle.format.specs.declared.Verdict.the-variants.{Accepted};
 ghost use Rattle.policy.specs.House.{actOf};
 ghost use Rattle.stepping.specs.Step.{resolved, resolvedAction, oldest, go, put, getting, planned, asking};
-ghost use Rattle.monitor.specs.Plan.{toward, planIn};
+ghost use Rattle.monitor.specs.Plan.{toward, nextIn, planIn};
 use net::Action;
 use net::Operand;
 use stepping::Answer;
@@ -75,14 +75,20 @@ fn resolved_action(x: Action, vars: [u16; 8]) -> Action
     }
 }
 
-// The oldest row at the target that fits the action.
-fn oldest(rows: &[u8], target: usize, action: Action) -> Found
-    requires { ⌜ (target < 65536) × Ordered 10 (now rows) ⌝ }
+// A start of rows as a size.
+fn wide(x: u16) -> usize
+    ensures { λ r. ⌜ (r ≡ x) × (r < 65536) ⌝ }
+{
+    x as usize
+}
+
+// The oldest row at the target that fits the action. The rows at the target stand together, from where they start to where the next site's do.
+fn oldest(rows: &[u8], starts: &[u16; 33], target: usize, action: Action) -> Found
+    requires { ⌜ (target < 32) × Ordered 10 (now rows) × (now starts ≡ startsOf 10 (now rows)) ⌝ }
     ensures { λ r. ⌜ r ≡ oldest target action (rowsIn (now (rows .entry))) ⌝ }
 {
-    let n = rows.len() / 10;
-    let end = words::count_below(rows, 10, n, target + 1);
-    let mut k = words::count_below(rows, 10, n, target);
+    let end = wide(starts[target + 1]);
+    let mut k = wide(starts[target]);
     while k < end {
         if policy::fits(action, net::row_at(rows, 10 * k)) {
             return Found::At(k);
@@ -115,8 +121,8 @@ fn refused(answer: Answer) -> Asked
 }
 
 // Step 5, of an action that the rules let pass: a put needs no row, a take or read the oldest that fits.
-fn allowed(rows: &[u8], target: usize, action: Action) -> Asked
-    requires { ⌜ (target < 65536) × Ordered 10 (now rows) ⌝ }
+fn allowed(rows: &[u8], starts: &[u16; 33], target: usize, action: Action) -> Asked
+    requires { ⌜ (target < 32) × Ordered 10 (now rows) × (now starts ≡ startsOf 10 (now rows)) ⌝ }
     ensures { λ r. ⌜ ((i : ℕ) → planIn i r ≡ cond (eqb (action .capability) 1) (put (actOf i target action)) (getting (actOf i target action) (oldest target action (rowsIn (now (rows .entry)))))) ⌝ }
 {
     if action.capability == 1 {
@@ -127,7 +133,7 @@ fn allowed(rows: &[u8], target: usize, action: Action) -> Asked
             action,
         };
     }
-    let Found::At(row) = oldest(rows, target, action) else {
+    let Found::At(row) = oldest(rows, starts, target, action) else {
         return refused(Answer::NoMatch);
     };
     Asked {
@@ -139,24 +145,24 @@ fn allowed(rows: &[u8], target: usize, action: Action) -> Asked
 }
 
 // Step 4: what the rules say of an action of site i at the target.
-fn judged(image: &[u8], i: usize, target: usize, action: Action) -> Asked
-    requires { ⌜ (verdictOf (now image) ≡ Accepted) × (i < length (stateIn (now image) .sites)) × (target < length (stateIn (now image) .sites)) ⌝ }
+fn judged(image: &[u8], starts: &[u16; 33], i: usize, target: usize, action: Action) -> Asked
+    requires { ⌜ (verdictOf (now image) ≡ Accepted) × (i < length (stateIn (now image) .sites)) × (target < length (stateIn (now image) .sites)) × (now starts ≡ startsOf 10 (bodyIn (now image) 5)) ⌝ }
     ensures { λ r. ⌜ planIn i r ≡ planned (rulesIn (now (image .entry))) (stateIn (now (image .entry))) (go (actOf i target action)) ⌝ }
 {
     let sites = format::part(image, 1);
     let nodes = format::part(image, 2);
     let aspects = format::part(image, 3);
     let rows = format::part(image, 5);
-    let value = policy::judge(sites, nodes, aspects, rows, i, target, action);
-    if belnap::grants(value) {
-        return allowed(rows, target, action);
+    let passes = policy::permits(sites, nodes, aspects, rows, starts, i, target, action);
+    if passes {
+        return allowed(rows, starts, target, action);
     }
     refused(Answer::Denied)
 }
 
 // Step 3: where the target's value is the name of a site.
-fn placed(image: &[u8], i: usize, action: Action) -> Asked
-    requires { ⌜ (verdictOf (now image) ≡ Accepted) × (i < length (stateIn (now image) .sites)) ⌝ }
+fn placed(image: &[u8], starts: &[u16; 33], i: usize, action: Action) -> Asked
+    requires { ⌜ (verdictOf (now image) ≡ Accepted) × (i < length (stateIn (now image) .sites)) × (now starts ≡ startsOf 10 (bodyIn (now image) 5)) ⌝ }
     ensures { λ r. ⌜ planIn i r ≡ planned (rulesIn (now (image .entry))) (stateIn (now (image .entry))) (toward i action (placeOf (names (stateIn (now (image .entry)) .sites)) (action .target .value))) ⌝ }
 {
     let sites = format::part(image, 1);
@@ -164,12 +170,28 @@ fn placed(image: &[u8], i: usize, action: Action) -> Asked
     let Found::At(target) = net::place_of(sites, place.value) else {
         return refused(Answer::NoPlace);
     };
-    judged(image, i, target, action)
+    judged(image, starts, i, target, action)
 }
 
-// What site i would do, on an accepted image.
-pub fn ask(image: &[u8], i: usize) -> Asked
-    requires { ⌜ verdictOf (now image) ≡ Accepted ⌝ }
+// Where action number p of site i stands among all actions: p past the first of i's, if the action there is i's.
+fn next_of(actions: &[u8], i: usize, p: u16) -> Found
+    requires { ⌜ Ordered 24 (now actions) ⌝ }
+    ensures { λ r. ⌜ r ≡ nextIn (now (actions .entry)) i p ⌝ }
+{
+    let n = actions.len() / 24;
+    let k = words::count_below(actions, 24, n, i) + (p as usize);
+    if n <= k {
+        return Found::Nothing;
+    }
+    if actions[24 * k] as usize != i {
+        return Found::Nothing;
+    }
+    Found::At(k)
+}
+
+// What site i would do, on an accepted image, where the rows of each site start as said.
+pub fn ask(image: &[u8], starts: &[u16; 33], i: usize) -> Asked
+    requires { ⌜ (verdictOf (now image) ≡ Accepted) × (now starts ≡ startsOf 10 (bodyIn (now image) 5)) ⌝ }
     ensures { λ r. ⌜ planIn i r ≡ asking (rulesIn (now (image .entry))) (stateIn (now (image .entry))) i ⌝ }
 {
     let sites = format::part(image, 1);
@@ -177,15 +199,11 @@ pub fn ask(image: &[u8], i: usize) -> Asked
         return refused(Answer::NoSite);
     }
     let x = net::site_at(sites, 32 * i);
-    let at = x.position as usize;
     let actions = format::part(image, 4);
-    let n = actions.len() / 24;
-    let first = words::count_below(actions, 24, n, i);
-    let end = words::count_below(actions, 24, n, i + 1);
-    if end - first <= at {
+    let Found::At(k) = next_of(actions, i, x.position) else {
         return refused(Answer::Done);
-    }
+    };
     let vars = x.vars;
-    let action = resolved_action(net::action_at(actions, 24 * (first + at)), vars);
-    placed(image, i, action)
+    let action = resolved_action(net::action_at(actions, 24 * k), vars);
+    placed(image, starts, i, action)
 }

@@ -12,8 +12,8 @@ ghost use lib.ListN.{length};
 ghost use denote.Ref.{ptr};
 ghost use Rattle.format.specs.Verdict.{verdictOf, bodyOf, bodyPlace};
 ghost use Rattle.stepping.specs.Step.{asking, step};
-ghost use Rattle.monitor.specs.Memory.{loadAnswer, loadMemory, holdsNet, rulesHeld, stateHeld, memoryWith, saveAnswer, saveOutput, stepAnswer, stepMemory, runAnswer, runMemory, runAnswers};
-ghost use Rattle.monitor.specs.Plan.{planIn};
+ghost use Rattle.monitor.specs.Memory.{loadAnswer, loadMemory, holdsNet, rulesHeld, stateHeld, startsHeld, memoryWith, saveAnswer, saveOutput, stepAnswer, stepMemory, runAnswer, runMemory, runAnswers};
+ghost use Rattle.monitor.specs.Plan.{planIn, startsAfter, Countable};
 use ask::Asked;
 use format::Verdict;
 use stepping::Answer;
@@ -102,24 +102,52 @@ pub fn save(memory: &[u8], out: &mut [u8]) -> Saved
     Saved::Whole(end)
 }
 
-// What a site would do, on memory that holds a net.
-fn asked(memory: &[u8], site: usize) -> Asked
+// Where the rows of each site start, in memory that holds a net.
+fn starts_of(memory: &[u8]) -> [u16; 33]
     requires { ⌜ holdsNet (now memory) ≡ true ⌝ }
+    ensures { λ r. ⌜ r ≡ startsHeld (now (memory .entry)) ⌝ }
+{
+    let image = act::image_of(memory);
+    words::starts(format::part(image, 5), 10)
+}
+
+// What a site would do, on memory that holds a net.
+fn asked(memory: &[u8], starts: &[u16; 33], site: usize) -> Asked
+    requires { ⌜ (holdsNet (now memory) ≡ true) × (now starts ≡ startsHeld (now memory)) ⌝ }
     ensures { λ r. ⌜ planIn site r ≡ asking (rulesHeld (now (memory .entry))) (stateHeld (now (memory .entry))) site ⌝ }
 {
     let image = act::image_of(memory);
-    ask::ask(image, site)
+    ask::ask(image, starts, site)
 }
 
-// One step of a site on memory that holds a net.
-fn tried(memory: &mut [u8], site: usize) -> Answer
-    requires { ⌜ holdsNet (now memory) ≡ true ⌝ }
+// Keeps the starts of rows right for a grant at site t: a put with room for its row adds one there, a take takes one out.
+fn recount(starts: &mut [u16; 33], capability: u8, t: usize)
+    requires { ⌜ Countable capability t (now starts) ⌝ }
+    ensures { λ _. ⌜ now (starts .exit) ≡ startsAfter capability t (now (starts .entry)) ⌝ }
+{
+    if capability == 1 {
+        if starts[t + 1] - starts[t] < act::STORE as u16 {
+            words::starts_more(starts, t);
+        }
+        return;
+    }
+    if capability == 2 {
+        words::starts_less(starts, t);
+    }
+}
+
+// One step of a site on memory that holds a net, with the starts of its rows kept right.
+fn tried(memory: &mut [u8], starts: &mut [u16; 33], site: usize) -> Answer
+    requires { ⌜ (holdsNet (now memory) ≡ true) × (now starts ≡ startsHeld (now memory)) ⌝ }
     ensures { λ r. ⌜ r ≡ step (rulesHeld (now (memory .entry))) (stateHeld (now (memory .entry))) site .answer ⌝ }
     ensures { λ _. ⌜ now (memory .exit) ≡ memoryWith (rulesHeld (now (memory .entry))) (step (rulesHeld (now (memory .entry))) (stateHeld (now (memory .entry))) site .after) ⌝ }
+    ensures { λ _. ⌜ now (starts .exit) ≡ startsHeld (now (memory .exit)) ⌝ }
 {
-    let asked = asked(memory, site);
+    let asked = asked(memory, starts, site);
     let answer = asked.answer;
     if stepping::number(answer) == 0 {
+        let action = asked.action;
+        recount(starts, action.capability, asked.target);
         act::act(memory, site, asked);
     }
     answer
@@ -133,10 +161,11 @@ pub fn step(memory: &mut [u8], site: usize) -> Answer
     if !holds(memory) {
         return Answer::NoNet;
     }
-    tried(memory, site)
+    let mut starts = starts_of(memory);
+    tried(memory, &mut starts, site)
 }
 
-// One step for each byte of `steps`, in order: memory is checked once.
+// One step for each byte of `steps`, in order: memory is checked once, and once is worked out where the rows of each site start.
 pub fn run(memory: &mut [u8], steps: &[u8], answers: &mut [u8]) -> Ran
     ensures { λ r. ⌜ r ≡ runAnswer (now (memory .entry)) (now (steps .entry)) (length (now (answers .entry))) ⌝ }
     ensures { λ _. ⌜ now (memory .exit) ≡ runMemory (now (memory .entry)) (now (steps .entry)) (length (now (answers .entry))) ⌝ }
@@ -148,9 +177,10 @@ pub fn run(memory: &mut [u8], steps: &[u8], answers: &mut [u8]) -> Ran
     if !holds(memory) {
         return Ran::NoNet;
     }
+    let mut starts = starts_of(memory);
     let mut i = 0;
     while i < steps.len() {
-        let answer = tried(memory, steps[i] as usize);
+        let answer = tried(memory, &mut starts, steps[i] as usize);
         answers[i] = stepping::number(answer);
         i += 1;
     }

@@ -1,5 +1,5 @@
 -- What a net is: five flat lists of records, in the image's order, each record with its owner inside. Assumes nothing.
-use Prim.Native.Nat.{ℕ}
+use Prim.Native.Nat.{ℕ, _<_}
 use mathlib.Core.Bool.{Bool, true, false}
 use mathlib.Core.List.{List, [], _∷_, map}
 use lib.Dec.{eqb}
@@ -92,6 +92,10 @@ names = map (λ x. x .name)
 -- the number of the site that has a name
 unfoldable pub placeOf : List ℕ → ℕ → Found
 placeOf l wanted = first (λ k. eqb (getD l k 0) wanted) (length l)
+
+-- names that rise, as those of an accepted net do, so that one is found by halving
+abbrev pub Rising : List ℕ → Type 0
+Rising l = (i j : ℕ) → i < j → j < length l → getD l i 0 < getD l j 0
 
 -- a place is there; it is site i
 abbrev pub isThere : Found → Bool

@@ -4,7 +4,7 @@ ghost use mathlib.Core.Path.{_≡_};
 ghost use Prim.Native.Nat.{_+_, _≤_};
 ghost use lib.ListN.{length};
 ghost use Rattle.net.specs.Records.{fourWords, eightWords, readOperand, fourOperands, readSite, readNode, readAspect, readAction, readRow, siteBytes, rowBytes};
-ghost use Rattle.net.specs.Net.{names, placeOf};
+ghost use Rattle.net.specs.Net.{names, placeOf, Rising};
 ghost use Rattle.net.specs.Image.{sitesIn};
 use words::Found;
 use words::word;
@@ -195,17 +195,24 @@ pub fn row_at(s: &[u8], at: usize) -> Row
     }
 }
 
-// The number of the site that has a name.
+// The number of the site that has a name, where the names rise: found by halving.
 pub fn place_of(sites: &[u8], wanted: u16) -> Found
+    requires { ⌜ Rising (names (sitesIn (now sites))) ⌝ }
     ensures { λ r. ⌜ r ≡ placeOf (names (sitesIn (now (sites .entry)))) wanted ⌝ }
 {
-    let n = sites.len() / 32;
-    let mut k = 0;
-    while k < n {
-        if word(sites, 32 * k) == wanted {
-            return Found::At(k);
+    let mut low = 0;
+    let mut high = sites.len() / 32;
+    while low < high {
+        let middle = (low + high) / 2;
+        let name = word(sites, 32 * middle);
+        if name == wanted {
+            return Found::At(middle);
         }
-        k += 1;
+        if name < wanted {
+            low = middle + 1;
+        } else {
+            high = middle;
+        }
     }
     Found::Nothing
 }

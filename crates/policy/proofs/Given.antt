@@ -1,16 +1,18 @@
 -- What an aspect gives, by its two tests; the value of a node of its own, as the evaluators are asked for it; and the three parts of a
--- judgement, gathered one after the other. Assumes nothing.
-use mathlib.Core.Path.{_≡_, sym, ap, _∙_}
-use mathlib.Core.Bool.{true, false}
-use mathlib.Core.List.{List}
+-- judgement. Assumes nothing.
+use mathlib.Core.Path.{_≡_, refl, sym, ap, _∙_}
+use mathlib.Core.Bool.{Bool, true, false, _&&_}
+use mathlib.Core.List.{List, [], _∷_}
 use Prim.Native.Nat.{ℕ, _/_}
+use native.Mathlib.Omega.{arith}
 use lib.ListN.{length, getD}
-use Rattle.belnap.specs.Belnap.{gatherOf}
-use Rattle.belnap.proofs.Laws.{gather-assoc, gather-self}
+use Rattle.belnap.specs.Belnap.{grants, gatherOf}
+use Rattle.belnap.proofs.Laws.{grants-gather}
+use Rattle.words.specs.Tables.{tableOf}
 use Rattle.words.proofs.Tables.{table-length}
 use Rattle.net.specs.Records.{nodeWidth, readNode}
 use Rattle.net.specs.Net.{Rules}
-use Rattle.net.specs.Image.{nodesIn}
+use Rattle.net.specs.Image.{nodesIn, aspectsIn}
 use Rattle.net.specs.declared.Node.{Node}
 use Rattle.net.specs.declared.Site.{Site}
 use Rattle.net.specs.declared.Row.{Row}
@@ -37,14 +39,25 @@ module _ (sites : List Site) (rows : List Row) (act : Act) (x : Aspect) where
     unfolding gives
     gives-trapped t u = rw (t, u)
 
-module _ (r : Rules) (sites : List Site) (rows : List Row) (act : Act) {m p v : ℕ}
-    (ruled : m ≡ mandatory (act .action .capability) (termsIn sites act)) (from : p ≡ policy (r .nodes) sites rows act (act .source) (r .aspects))
-    (both : v ≡ gatherOf m p) where
-  pub judge-two : {q w : ℕ} → q ≡ policy (r .nodes) sites rows act (act .target) (r .aspects) → w ≡ gatherOf v q → w ≡ judge r sites rows act
-  unfolding judge
-  judge-two {q} to all = rw (← ruled, ← from, ← to) (all ∙ ap (λ (x : ℕ). gatherOf x q) both ∙ gather-assoc m p q)
+-- what is judged grants exactly if the mandatory rules and both policies do
+module _ (r : Rules) (sites : List Site) (rows : List Row) (act : Act) where
+  abbrev ruled : ℕ
+  ruled = mandatory (act .action .capability) (termsIn sites act)
 
-  pub judge-one : act .source ≡ act .target → v ≡ judge r sites rows act
-  judge-one e =
-      judge-two (from ∙ ap (λ (t : ℕ). policy (r .nodes) sites rows act t (r .aspects)) e)
-      (both ∙ ap (gatherOf m) (sym (gather-self p)) ∙ sym (gather-assoc m p p) ∙ ap (λ (x : ℕ). gatherOf x p) (sym both))
+  abbrev says : ℕ → ℕ
+  says site = policy (r .nodes) sites rows act site (r .aspects)
+
+  pub judged : {a b c : Bool} → grants ruled ≡ a → grants (says (act .source)) ≡ b → grants (says (act .target)) ≡ c → (a && (b && c)) ≡ grants (judge r sites rows act)
+  unfolding judge
+  judged e f g =
+      rw (← e, ← f, ← g) (sym (grants-gather ruled (gatherOf (says (act .source)) (says (act .target))) ∙ ap (λ (x : Bool). grants ruled && x) (grants-gather (says (act .source)) (says (act .target)))))
+
+  -- without aspects a policy says nothing
+  pub says-nothing : r .aspects ≡ [] → (site : ℕ) → grants (says site) ≡ true
+  unfolding policy
+  says-nothing e site = rw e
+
+pub no-aspects : (s : List ℕ) → length s ≡ 0 → aspectsIn s ≡ []
+unfolding tableOf
+no-aspects [] e = refl
+no-aspects (x ∷ s) e = let z : ⊥ = omega (arith, e) in absurd z

@@ -1,6 +1,6 @@
 -- What is gathered, and what the mandatory rules come to for each capability. Assumes nothing.
 use mathlib.Core.Path.{_≡_, refl, sym, ap, _∙_}
-use mathlib.Core.Bool.{Bool, true, false, cond, _&&_, and-true}
+use mathlib.Core.Bool.{Bool, true, false, cond, _&&_, and-true, and-false}
 use mathlib.Core.List.{List, [], _∷_, _++_, map}
 use mathlib.Core.Logic.{_⊎_, inl, inr}
 use Prim.Native.Nat.{ℕ, zero, suc, _<_}
@@ -23,6 +23,16 @@ use Rattle.policy.specs.declared.rules.Rule.{Rule}
 pub grants-all : (l : List ℕ) → grants (gatherAll l) ≡ all grants l
 grants-all [] = refl
 grants-all (v ∷ l) = grants-gather v (gatherAll l) ∙ ap (λ (b : Bool). grants v && b) (grants-all l)
+
+-- and one that does not grant decides
+pub denied-by : {A : Type 0} (g : A → ℕ) (l : List A) (d : A) (i n : ℕ) → i < n → i < length l → grants (g (getD l i d)) ≡ false → grants (gatherAll (map g (take n l))) ≡ false
+denied-by g [] d i n h b e = absurd (not-suc-le-zero b)
+denied-by g (x ∷ l) d i zero h b e = absurd (not-suc-le-zero h)
+denied-by g (x ∷ l) d zero (suc n) h b e = grants-gather (g x) (gatherAll (map g (take n l))) ∙ rw e
+denied-by g (x ∷ l) d (suc i) (suc n) h b e =
+    grants-gather (g x) (gatherAll (map g (take n l)))
+    ∙ ap (λ (a : Bool). grants (g x) && a) (denied-by g l d i n (le-of-suc-le-suc h) (le-of-suc-le-suc b) e)
+    ∙ and-false (grants (g x))
 
 -- gathered in the order of a loop: one more at the end
 pub gather-next : (l : List ℕ) (v : ℕ) → gatherAll (l ++ (v ∷ [])) ≡ gatherOf (gatherAll l) v

@@ -3,12 +3,14 @@
 use mathlib.Core.Path.{_≡_, refl, sym, ap, _∙_}
 use mathlib.Core.Bool.{Bool, true, false}
 use mathlib.Core.List.{List, [], _∷_}
+use mathlib.Core.Logic.{_⊎_, ⊎-elim}
 use Prim.Native.Nat.{ℕ, _-_, _*_, _≤_, _<_}
 use native.Mathlib.Omega.{arith}
 use lib.Dec.{ltb}
 use lib.ListN.{length, getD, List·getD-eq-default}
 use borrow.Author.Tests.{ne-eqb, ltb-true, ltb-false}
-use Rattle.belnap.specs.Belnap.{andOf, orOf, consensusOf, gatherOf, impliesOf, beforeOf, operateOf}
+use Rattle.belnap.specs.Belnap.{andOf, orOf, consensusOf, gatherOf, impliesOf, beforeOf, operateOf, settles}
+use Rattle.belnap.proofs.Laws.{settles-any}
 use Rattle.words.proofs.Lists.{length-fill}
 use Rattle.words.proofs.Tables.{table-at}
 use Rattle.net.specs.Records.{nodeWidth, noNode, readNode}
@@ -23,6 +25,10 @@ use Rattle.policy.proofs.Sorts.{value-read, yes-read, yes-none, advice-
 operate-beyond : (k : ℕ) → 6 ≤ k → (x y : ℕ) → operateOf k x y ≡ 0
 unfolding operateOf
 operate-beyond k h x y = List·getD-eq-default (andOf x y ∷ orOf x y ∷ consensusOf x y ∷ gatherOf x y ∷ impliesOf x y ∷ beforeOf x y ∷ []) 0 h
+
+-- an operator's second value may be left out where the first decides
+pub second-value : (k p q b : ℕ) → p < 4 → b < 4 → (q ≡ b) ⊎ ((settles k p ≡ true) × (q ≡ p)) → operateOf k p q ≡ operateOf k p b
+second-value k p q b h g = ⊎-elim (ap (operateOf k p)) (λ v. ap (operateOf k p) (v .1) ∙ sym (settles-any k p b h g (v .0)))
 
 module _ (q : Ask) (s : List ℕ) (n top : ℕ) where
   abbrev row : ℕ → List ℕ
@@ -86,6 +92,7 @@ module _ (q : Ask) (s : List ℕ) (n top : ℕ) where
     advice-beyond large = advice-here (omega arith) (simp (ne-eqb kind 16 (λ e. omega arith), ne-eqb kind 17 (λ e. omega arith), ne-eqb kind 18 (λ e. omega arith)) (sym (operate-beyond (kind - 19) (omega arith) _ _)))
 
 -- what is asked of a table below top holds below each of its nodes
-pub below-asked : {n top t : ℕ} {nodes rows terms vars : List ℕ} → n < top → top ≡ t → Evaluable top nodes rows terms vars → (n < t) × Evaluable n nodes rows terms vars
+pub below-asked : {n top t : ℕ} {nodes sites rows starts terms vars : List ℕ} → n < top → top ≡ t → Evaluable top nodes sites rows starts terms vars
+    → (n < t) × Evaluable n nodes sites rows starts terms vars
 below-asked h e p =
-    (omega arith, record { there = let l = p .there in omega arith; counted = let l = p .counted in omega arith; eight-terms = p .eight-terms; eight-vars = p .eight-vars; ordered = p .ordered })
+    (omega arith, record { there = let l = p .there in omega arith; counted = let l = p .counted in omega arith; eight-terms = p .eight-terms; eight-vars = p .eight-vars; placed = p .placed })

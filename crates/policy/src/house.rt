@@ -1,12 +1,14 @@
-// Policies: what the aspects of one site give an action, gathered.
+// Policies: what an aspect gives an action, and whether the aspects of one site, gathered, grant it. What is gathered grants exactly if each
+// part does.
 ghost use mathlib.Core.Path.{_≡_};
 ghost use mathlib.Core.List.{map};
 ghost use Prim.Native.Nat.{_+_, _/_, _^_, _<_, _≤_};
 ghost use lib.ListN.{length, take, drop};
+ghost use Rattle.words.specs.Tables.{Ordered};
+ghost use Rattle.belnap.specs.Belnap.{grants};
 ghost use Rattle.net.specs.Records.{readAspect};
 ghost use Rattle.net.specs.Image.{sitesIn, nodesIn, aspectsIn, rowsIn};
-ghost use Rattle.policy.specs.Owners.{Ordered};
-ghost use Rattle.policy.specs.Asked.{Acting};
+ghost use Rattle.policy.specs.Asked.{nodesOf, sitesOf, rowsOf, Acting};
 ghost use Rattle.policy.specs.House.{actOf, gatherAll, gives, policy};
 use crate::cut::taken;
 use crate::cut::traps;
@@ -20,109 +22,85 @@ use words::size_at;
 fn gives(
     aspects: &[u8],
     at: usize,
-    nodes: &&[u8],
-    sites: &&[u8],
-    rows: &&[u8],
+    tables: &[&[u8]; 3],
+    starts: &[u16; 33],
     source: usize,
     target: usize,
     action: Action,
     terms: &[u16; 8],
 ) -> u8
-    requires { ⌜ (at + 32 ≤ length (now aspects)) × Acting (actOf source target action) (now (now nodes)) (now (now sites)) (now (now rows)) (now terms) ⌝ }
-    ensures { λ r. ⌜ (r ≡ gives (nodesIn (now (now (nodes .entry)))) (sitesIn (now (now (sites .entry)))) (rowsIn (now (now (rows .entry)))) (actOf source target action) (readAspect (now (aspects .entry)) at)) × (r < 4) ⌝ }
+    requires { ⌜ (at + 32 ≤ length (now aspects)) × Acting (actOf source target action) (nodesOf (now tables)) (sitesOf (now tables)) (rowsOf (now tables)) (now starts) (now terms) ⌝ }
+    ensures { λ r. ⌜ (r ≡ gives (nodesIn (nodesOf (now (tables .entry)))) (sitesIn (sitesOf (now (tables .entry)))) (rowsIn (rowsOf (now (tables .entry)))) (actOf source target action) (readAspect (now (aspects .entry)) at)) × (r < 4) ⌝ }
 {
-    if !traps(aspects, at, *sites, source, target, action) {
+    let sites = tables[1];
+    if !traps(aspects, at, sites, source, target, action) {
         return 0;
     }
-    let vars = taken(aspects, at, *sites, source, target, action);
-    let table = *nodes;
-    let top = table.len() / 24;
-    if !holds(
-        size_at(aspects, at + 28),
-        top,
-        nodes,
-        sites,
-        rows,
-        terms,
-        &vars,
-    ) {
+    let vars = taken(aspects, at, sites, source, target, action);
+    let nodes = tables[0];
+    let top = nodes.len() / 24;
+    if !holds(size_at(aspects, at + 28), top, tables, starts, terms, &vars) {
         return 0;
     }
-    advises(
-        size_at(aspects, at + 30),
-        top,
-        nodes,
-        sites,
-        rows,
-        terms,
-        &vars,
-    )
+    advises(size_at(aspects, at + 30), top, tables, starts, terms, &vars)
 }
 
-// What `count` aspects from number `first` on give the action, gathered.
-fn gathered(
+// Whether each of `count` aspects from number `first` on gives the action a value that grants; the first that does not decides.
+fn all_grant(
     first: usize,
     count: usize,
     aspects: &[u8],
-    nodes: &&[u8],
-    sites: &&[u8],
-    rows: &&[u8],
+    tables: &[&[u8]; 3],
+    starts: &[u16; 33],
     source: usize,
     target: usize,
     action: Action,
     terms: &[u16; 8],
-) -> u8
-    requires { ⌜ (first + count ≤ length (now aspects) / 32) × Acting (actOf source target action) (now (now nodes)) (now (now sites)) (now (now rows)) (now terms) ⌝ }
-    ensures { λ r. ⌜ (r ≡ gatherAll (map (gives (nodesIn (now (now (nodes .entry)))) (sitesIn (now (now (sites .entry)))) (rowsIn (now (now (rows .entry)))) (actOf source target action)) (take count (drop first (aspectsIn (now (aspects .entry))))))) × (r < 4) ⌝ }
+) -> bool
+    requires { ⌜ (first + count ≤ length (now aspects) / 32) × Acting (actOf source target action) (nodesOf (now tables)) (sitesOf (now tables)) (rowsOf (now tables)) (now starts) (now terms) ⌝ }
+    ensures { λ r. ⌜ r ≡ grants (gatherAll (map (gives (nodesIn (nodesOf (now (tables .entry)))) (sitesIn (sitesOf (now (tables .entry)))) (rowsIn (rowsOf (now (tables .entry)))) (actOf source target action)) (take count (drop first (aspectsIn (now (aspects .entry))))))) ⌝ }
 {
-    let mut value = 0;
     let mut i = 0;
     while i < count {
-        value = belnap::gather(
-            value,
-            gives(
-                aspects,
-                32 * (first + i),
-                nodes,
-                sites,
-                rows,
-                source,
-                target,
-                action,
-                terms,
-            ),
+        let value = gives(
+            aspects,
+            32 * (first + i),
+            tables,
+            starts,
+            source,
+            target,
+            action,
+            terms,
         );
+        if !belnap::grants(value) {
+            return false;
+        }
         i += 1;
     }
-    value
+    true
 }
 
-// What the policy of a site gives the action: its own aspects alone are looked at, and gathered.
-pub fn policy(
+// Whether the policy of a site, its own aspects gathered, grants the action.
+pub fn policy_grants(
     site: usize,
     aspects: &[u8],
-    nodes: &&[u8],
-    sites: &&[u8],
-    rows: &&[u8],
+    tables: &[&[u8]; 3],
+    starts: &[u16; 33],
     source: usize,
     target: usize,
     action: Action,
     terms: &[u16; 8],
-) -> u8
-    requires { ⌜ (site + 1 < 2 ^ 64) × Ordered 32 (now aspects) × Acting (actOf source target action) (now (now nodes)) (now (now sites)) (now (now rows)) (now terms) ⌝ }
-    ensures { λ r. ⌜ (r ≡ policy (nodesIn (now (now (nodes .entry)))) (sitesIn (now (now (sites .entry)))) (rowsIn (now (now (rows .entry)))) (actOf source target action) site (aspectsIn (now (aspects .entry)))) × (r < 4) ⌝ }
+) -> bool
+    requires { ⌜ (site + 1 < 2 ^ 64) × Ordered 32 (now aspects) × Acting (actOf source target action) (nodesOf (now tables)) (sitesOf (now tables)) (rowsOf (now tables)) (now starts) (now terms) ⌝ }
+    ensures { λ r. ⌜ r ≡ grants (policy (nodesIn (nodesOf (now (tables .entry)))) (sitesIn (sitesOf (now (tables .entry)))) (rowsIn (rowsOf (now (tables .entry)))) (actOf source target action) site (aspectsIn (now (aspects .entry)))) ⌝ }
 {
     let own = group(aspects, 32, site);
-    if own.count == 0 {
-        return 0;
-    }
-    gathered(
+    all_grant(
         own.first,
         own.count,
         aspects,
-        nodes,
-        sites,
-        rows,
+        tables,
+        starts,
         source,
         target,
         action,

@@ -5,10 +5,9 @@ ghost use lib.ListN.{length, take, drop};
 ghost use Rattle.words.specs.Lists.{some};
 ghost use Rattle.net.specs.Records.{readNode, readRow};
 ghost use Rattle.net.specs.Image.{sitesIn, rowsIn};
-ghost use Rattle.policy.specs.Owners.{Ordered};
+ghost use Rattle.policy.specs.Asked.{Placed};
 ghost use Rattle.policy.specs.House.{asks, wanted, testOf};
 use crate::fields::up_to_four;
-use crate::owners::group;
 use crate::vars::known;
 use crate::vars::meant;
 use net::Operand;
@@ -74,14 +73,22 @@ fn sought(
     false
 }
 
-// The test node at byte `node`: whether some row at the named place is wanted.
-pub fn test(nodes: &[u8], node: usize, sites: &[u8], rows: &[u8], vars: &[u16; 8]) -> bool
-    requires { ⌜ (node + 24 ≤ length (now nodes)) × (length (now vars) ≡ 8) × Ordered 10 (now rows) ⌝ }
+// The test node at byte `node`: whether some row at the named place is wanted. `starts` says where the rows of each site start.
+pub fn test(
+    nodes: &[u8],
+    node: usize,
+    sites: &[u8],
+    rows: &[u8],
+    starts: &[u16; 33],
+    vars: &[u16; 8],
+) -> bool
+    requires { ⌜ (node + 24 ≤ length (now nodes)) × (length (now vars) ≡ 8) × Placed (now sites) (now rows) (now starts) ⌝ }
     ensures { λ r. ⌜ r ≡ testOf (sitesIn (now (sites .entry))) (rowsIn (now (rows .entry))) (now (vars .entry)) (readNode (now (nodes .entry)) node) ⌝ }
 {
     let Found::At(place) = place_of(sites, word(nodes, node + 2)) else {
         return false;
     };
-    let here = group(rows, 10, place);
-    sought(rows, here.first, here.count, nodes, node, vars)
+    let first = starts[place] as usize;
+    let end = starts[place + 1] as usize;
+    sought(rows, first, end - first, nodes, node, vars)
 }

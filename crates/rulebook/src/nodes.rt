@@ -7,7 +7,7 @@ ghost use lib.ListN.{length, getD};
 ghost use lib.Dec.{ltb, leb, eqb};
 ghost use Rattle.words.specs.Lists.{firstBad};
 ghost use Rattle.net.specs.Records.{nodeWidth};
-ghost use Rattle.net.specs.Net.{names, placeOf, isThere, nodeAt, depthLimit, mostNodes};
+ghost use Rattle.net.specs.Net.{names, placeOf, Rising, isThere, nodeAt, depthLimit, mostNodes};
 ghost use Rattle.net.specs.Image.{sitesIn, nodesIn};
 ghost use Rattle.rulebook.specs.Rulebook.{isCondition, isAdvice, hasOne, hasTwo, childOk, firstOk, secondOk, askedOk, depthOf, nodeOk};
 ghost use Rattle.rulebook.specs.Steps.{shapeOk, depthAt};
@@ -86,6 +86,7 @@ fn child_ok(nodes: &[u8], k: usize, kind: u8, j: u16) -> bool
 
 // Whether a name is a site's.
 fn is_place(sites: &[u8], name: u16) -> bool
+    requires { ⌜ Rising (names (sitesIn (now sites))) ⌝ }
     ensures { λ r. ⌜ r ≡ isThere (placeOf (names (sitesIn (now (sites .entry)))) name) ⌝ }
 {
     match place_of(sites, name) {
@@ -107,7 +108,7 @@ fn most_first(kind: u8) -> u16
 
 // Whether a is good.
 fn first_ok(nodes: &[u8], sites: &[u8], k: usize, x: Node) -> bool
-    requires { ⌜ 24 * k ≤ length (now nodes) ⌝ }
+    requires { ⌜ (24 * k ≤ length (now nodes)) × Rising (names (sitesIn (now sites))) ⌝ }
     ensures { λ r. ⌜ r ≡ firstOk (names (sitesIn (now (sites .entry)))) (nodesIn (now (nodes .entry))) k x ⌝ }
 {
     if has_one(x.kind) {
@@ -152,7 +153,7 @@ fn asked_ok(x: Node) -> bool
 
 // Whether a node is good but for its depth.
 fn shape_ok(nodes: &[u8], sites: &[u8], k: usize, x: Node) -> bool
-    requires { ⌜ 24 * k ≤ length (now nodes) ⌝ }
+    requires { ⌜ (24 * k ≤ length (now nodes)) × Rising (names (sitesIn (now sites))) ⌝ }
     ensures { λ r. ⌜ r ≡ shapeOk (names (sitesIn (now (sites .entry)))) (nodesIn (now (nodes .entry))) k x ⌝ }
 {
     is_kind(x.kind)
@@ -190,7 +191,7 @@ fn depth(x: Node, row: &[u8]) -> u8
 
 // The depth of node k over the row of those before it, and one more than the limit where it is bad for another reason.
 fn depth_at(nodes: &[u8], sites: &[u8], k: usize, row: &[u8]) -> u8
-    requires { ⌜ (24 * k + 24 ≤ length (now nodes)) × (length (now row) ≡ k) × ((j : ℕ) → getD (now row) j 0 ≤ depthLimit) ⌝ }
+    requires { ⌜ (24 * k + 24 ≤ length (now nodes)) × (length (now row) ≡ k) × ((j : ℕ) → getD (now row) j 0 ≤ depthLimit) × Rising (names (sitesIn (now sites))) ⌝ }
     ensures { λ r. ⌜ r ≡ depthAt (names (sitesIn (now (sites .entry)))) (nodesIn (now (nodes .entry))) k (now (row .entry)) ⌝ }
 {
     let x = node_at(nodes, 24 * k);
@@ -202,7 +203,7 @@ fn depth_at(nodes: &[u8], sites: &[u8], k: usize, row: &[u8]) -> u8
 
 // The first bad node, or how many there are.
 pub fn first_bad_node(nodes: &[u8], sites: &[u8]) -> usize
-    requires { ⌜ length (now nodes) ≤ nodeWidth * mostNodes ⌝ }
+    requires { ⌜ (length (now nodes) ≤ nodeWidth * mostNodes) × Rising (names (sitesIn (now sites))) ⌝ }
     ensures { λ r. ⌜ (r ≡ firstBad (nodeOk (names (sitesIn (now (sites .entry)))) (nodesIn (now (nodes .entry)))) (length (nodesIn (now (nodes .entry))))) × (r ≤ length (nodesIn (now (nodes .entry)))) ⌝ }
 {
     let n = nodes.len() / 24;

@@ -11,10 +11,11 @@ use native.Mathlib.Omega.{arith}
 use lib.Dec.{ltb, eqb}
 use lib.ListN.{length, getD, take, drop, length-drop, take-append-drop}
 use lib.Seq.{getD-take, getD-drop, length-take-le, drop-drop}
-use borrow.Author.Tests.{ltb-true, ltb-false, eq-eqb, ne-eqb}
-use Rattle.words.specs.Lists.{firstBad, count, those}
+use borrow.Author.Tests.{lt-ltb, le-ltb, ltb-true, ltb-false, eq-eqb, ne-eqb}
+use Rattle.words.specs.Lists.{firstBad, count, those, insertAt, removeAt}
 use Rattle.words.specs.Tables.{tableOf, Ordered, countBelow}
 use Rattle.words.proofs.First.{first-le, first-below, first-at, first-same}
+use Rattle.words.proofs.Lists.{count-insert, count-out}
 use Rattle.words.proofs.Tables.{table-length, table-at}
 
 module _ {A : Type 0} (p : A → Bool) where
@@ -127,6 +128,54 @@ module _ {A : Type 0} (f : A → ℕ) (d : A) where
         count-those (λ x. eqb (f x) t) l
         ∙ ap length group
         ∙ length-take-le (high - low) (drop low l) (let o = low-high in let b = high-length in omega (arith, length-drop low l))
+
+    -- as many are before as have a smaller key
+    pub below-count : below l t ≡ count (λ x. ltb (f x) t) l
+    below-count =
+        let p : A → Bool = λ x. ltb (f x) t in
+        let b : low ≤ length l = first-le (λ k. ltb (f (getD l k d)) t) (length l) in
+        let before : those p (take low l) ≡ take low l =
+        those-all p (take low l) d (λ k h.
+        let k₁ : k < low = omega (arith, length-take-le low l b) in
+        rw (getD-take low l k d k₁) (lt-ltb (f (getD l k d)) t (smaller k k₁))) in
+        let after : those p (drop low l) ≡ [] =
+        those-none p (drop low l) d (λ k h.
+        rw (getD-drop low l k d) (le-ltb (f (getD l (low + k) d)) t (larger t (low + k) (omega arith) (omega (arith, length-drop low l))))) in
+        sym (
+        count-those p l
+        ∙ ap (λ (m : List A). length (those p m)) (sym (take-append-drop low l))
+        ∙ ap length (those-append p (take low l) (drop low l))
+        ∙ rw (before, after, append-nil) (length-take-le low l b)
+        )
+
+    -- an element with a smaller key is one of them
+    pub below-some : (k : ℕ) → k < length l → f (getD l k d) < t → 0 < below l t
+    below-some k h b =
+        let e = below-count ∙ count-out (λ x. ltb (f x) t) k l d h in
+        let e₁ = rw (lt-ltb (f (getD l k d)) t b) at e in
+        omega (arith, e₁)
+
+  -- ---- an element comes, or goes
+  one-more : (c : Bool) (n : ℕ) → cond c 1 0 + n ≡ cond c (n + 1) n
+  one-more true n = omega arith
+  one-more false n = omega arith
+
+  one-less : (c : Bool) (n m : ℕ) → n ≡ cond c 1 0 + m → m ≡ cond c (n - 1) n
+  one-less true n m e = omega arith
+  one-less false n m e = omega arith
+
+  pub below-more : (l m : List A) (k : ℕ) (x : A) → Sorted l → Sorted m → m ≡ insertAt k x l
+      → (t : ℕ) → below m t ≡ cond (ltb (f x) t) (below l t + 1) (below l t)
+  below-more l m k x o q e t =
+      let p : A → Bool = λ y. ltb (f y) t in
+      below-count m q t ∙ ap (count p) e ∙ count-insert p k x l ∙ rw (← below-count l o t) (one-more (ltb (f x) t) (below l t))
+
+  pub below-less : (l m : List A) (k : ℕ) → k < length l → Sorted l → Sorted m → m ≡ removeAt k l
+      → (t : ℕ) → below m t ≡ cond (ltb (f (getD l k d)) t) (below l t - 1) (below l t)
+  below-less l m k h o q e t =
+      let p : A → Bool = λ y. ltb (f y) t in
+      one-less (ltb (f (getD l k d)) t) (below l t) (below m t)
+      (below-count l o t ∙ count-out p k l d h ∙ rw (below-count m q t, e))
 
 -- ---- a table whose records begin with their key: the search by halving is over its bytes
 module _ {A : Type 0} (f : A → ℕ) (d : A) (read : List ℕ → ℕ → A) (front : (s : List ℕ) (i : ℕ) → f (read s i) ≡ getD s i 0) (w : ℕ) (s : List ℕ) where

@@ -6,3 +6,5 @@ pub mod Splices
 pub mod Shifts
 pub mod Tables
 pub mod Groups
+pub mod Over
+pub mod Index

@@ -1,6 +1,6 @@
 -- The laws of the ways of going through lists: by induction on the list, or on the place in it. Assumes nothing.
 use mathlib.Core.Path.{_≡_, refl, sym, ap, _∙_, subst}
-use mathlib.Core.Bool.{Bool, true, false, cond, _&&_, _||_, or-assoc}
+use mathlib.Core.Bool.{Bool, true, false, cond, _&&_, _||_, and-assoc, or-assoc}
 use mathlib.Core.List.{List, [], _∷_, _++_, map}
 use mathlib.Core.Logic.{⊎-elim}
 use Prim.Native.Nat.{ℕ, zero, suc, _+_, _≤_, _<_}
@@ -77,6 +77,10 @@ module _ {A : Type 0} (p : A → Bool) where
   all-remove (suc i) (y ∷ l) t =
       let q = both-T (p y) (all p l) t in T-both (p y) (all p (removeAt i l)) (q .0) (all-remove i l (q .1))
 
+  pub all-append : (a b : List A) → all p (a ++ b) ≡ (all p a && all p b)
+  all-append [] b = refl
+  all-append (x ∷ a) b = rw (all-append a b) (sym (and-assoc (p x) (all p a) (all p b)))
+
   pub count-append : (a b : List A) → count p (a ++ b) ≡ count p a + count p b
   count-append [] b = sym (zero-add (count p b))
   count-append (x ∷ a) b = rw (count-append a b) (omega arith)
@@ -91,6 +95,11 @@ module _ {A : Type 0} (p : A → Bool) where
   count-remove zero (y ∷ l) = omega arith
   count-remove (suc i) [] = omega arith
   count-remove (suc i) (y ∷ l) = omega (arith, count-remove i l)
+
+  pub count-out : (i : ℕ) (l : List A) (d : A) → i < length l → count p l ≡ cond (p (getD l i d)) 1 0 + count p (removeAt i l)
+  count-out i [] d h = absurd (not-suc-le-zero h)
+  count-out zero (y ∷ l) d h = refl
+  count-out (suc i) (y ∷ l) d h = rw (count-out i l d (le-of-suc-le-suc h)) (omega arith)
 
   pub some-append : (a b : List A) → some p (a ++ b) ≡ (some p a || some p b)
   some-append [] b = refl

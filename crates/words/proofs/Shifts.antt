@@ -1,14 +1,17 @@
 -- One turn of each loop over bytes, and what a move and a put make together: each turn is one more element of a paste. Assumes nothing.
 use mathlib.Core.Path.{_≡_, refl, sym, ap, _∙_}
-use mathlib.Core.Bool.{Bool, true, false, _&&_, and-assoc, and-true}
+use mathlib.Core.Bool.{Bool, true, false, _&&_, and-true, and-false}
 use mathlib.Core.List.{List, [], _∷_, _++_, append-assoc, append-nil}
-use Prim.Native.Nat.{ℕ, zero, suc, _+_, _-_, _≤_, _<_}
-use native.Mathlib.Nat.{add-assoc, zero-add}
+use Prim.Native.Nat.{ℕ, zero, suc, _+_, _-_, _*_, _≤_, _<_}
+use native.Mathlib.Nat.{add-assoc, zero-add, add-zero}
 use native.Mathlib.Numerals.{add-one}
 use native.Mathlib.Omega.{arith}
 use lib.ListN.{length, getD, set, take, drop, replicate, length-append, length-drop, length-replicate, take-append-drop, List·getD-append}
 use lib.Seq.{take-suc, drop-cons, append-snoc, set-at, take-at, drop-at, take-take, take-append-le, drop-append-le, drop-append-add, drop-drop, getD-append-add, getD-drop, getD-take, length-take-le, paste, paste-suc, length-paste-head, take-length, drop-length}
 use lib.Dec.{eqb}
+use lib.Bits.{bitOr, or-add-and, and-le-r}
+use borrow.Author.Tests.{ne-eqb}
+use Rattle.words.proofs.Lists.{all-append}
 use Rattle.words.proofs.Splices.{splice-past, splice-zero}
 use Rattle.words.specs.Bytes.{splice, stretch, blank, raised, lowered, inserted, removed, padded, allZero}
 
@@ -107,13 +110,52 @@ pads m b h =
     let n : length b + (length m - length b) ≡ length (b ++ drop (length b) m) = simp (length-append, length-drop) (omega arith) in
     rw (zero-add (length b), length-replicate, n, take-at b (drop (length b) m) (length b) refl, drop-length) (append-nil (b ++ blank (length m - length b)))
 
--- one byte more of a test
-pub zero-more : (s : List ℕ) (j : ℕ) (ok : Bool) → j < length s → allZero s ≡ (ok && allZero (drop j s))
-    → allZero s ≡ ((ok && eqb (getD s j 0) 0) && allZero (drop (j + 1) s))
-unfolding allZero
-zero-more s j ok h e =
-    e ∙ rw (drop-cons s j 0 h, add-one) (sym (and-assoc ok (eqb (getD s j 0) 0) (allZero (drop (suc j) s))))
+-- ---- a test of two halves side by side: what was seen decides with what is left of each
+abbrev pub Seen : List ℕ → ℕ → ℕ → ℕ → Type 0
+Seen s half j seen = allZero s ≡ (eqb seen 0 && (allZero (stretch j half s) && allZero (drop (half + j) s)))
 
-pub zero-done : (s : List ℕ) (j : ℕ) (ok : Bool) → j ≡ length s → allZero s ≡ (ok && allZero (drop j s)) → ok ≡ allZero s
+-- an or is 0 exactly if both are
+or-none : (a b : ℕ) → eqb (bitOr a b) 0 ≡ (eqb a 0 && eqb b 0)
+or-none zero b = refl
+or-none (suc a) b =
+    rw (ne-eqb (suc a) 0 (λ e. omega arith)) (ne-eqb (bitOr (suc a) b) 0 (λ e. omega (arith, or-add-and (suc a) b, and-le-r (suc a) b)))
+
+exchanged : (x a b y z : Bool) → (x && ((a && y) && (b && z))) ≡ ((x && (a && b)) && (y && z))
+exchanged false a b y z = refl
+exchanged true false b y z = refl
+exchanged true true true y z = refl
+exchanged true true false y z = and-false y
+
+pub seen-none : (s : List ℕ) (half : ℕ) → Seen s half 0 0
 unfolding allZero
-zero-done s j ok q e = sym (e ∙ rw (q, drop-length) (and-true ok))
+seen-none s half =
+    let z : half - 0 ≡ half = omega arith in
+    rw (z, add-zero half) (ap allZero (sym (take-append-drop half s)) ∙ all-append (λ x. eqb x 0) (take half s) (drop half s))
+
+pub seen-more : (s : List ℕ) (half j seen : ℕ) → j < half → half + j < length s → Seen s half j seen
+    → Seen s half (j + 1) (bitOr seen (bitOr (getD s j 0) (getD s (half + j) 0)))
+unfolding allZero
+seen-more s half j seen h l e =
+    let a = getD s j 0 in
+    let b = getD s (half + j) 0 in
+    let n : half + (j + 1) ≡ suc (half + j) = omega arith in
+    e ∙ rw (stretch-cons j half s h (omega arith), drop-cons s (half + j) 0 l, n, add-one, or-none seen (bitOr a b), or-none a b)
+    (exchanged (eqb seen 0) (eqb a 0) (eqb b 0) (allZero (stretch (suc j) half s)) (allZero (drop (suc (half + j)) s)))
+
+-- all of an even number of bytes is seen, and all but the last of an odd one
+pub seen-all : (s : List ℕ) (half j seen : ℕ) → j ≡ half → length s ≡ 2 * half → Seen s half j seen → eqb seen 0 ≡ allZero s
+unfolding allZero
+seen-all s half j seen q l e =
+    let z : half - half ≡ 0 = omega arith in
+    let n : half + half ≡ length s = omega arith in
+    sym (e ∙ rw (q, z, n, drop-length) (and-true (eqb seen 0)))
+
+pub seen-last : (s : List ℕ) (half j seen : ℕ) → j ≡ half → length s ≡ 2 * half + 1 → Seen s half j seen
+    → eqb (bitOr seen (getD s (2 * half) 0)) 0 ≡ allZero s
+unfolding allZero
+seen-last s half j seen q l e =
+    let z : half - half ≡ 0 = omega arith in
+    let n : half + half ≡ 2 * half = omega arith in
+    let m : suc (2 * half) ≡ length s = omega arith in
+    let end : drop (suc (2 * half)) s ≡ [] = ap (λ (k : ℕ). drop k s) m ∙ drop-length s in
+    sym (e ∙ rw (q, z, n, drop-cons s (2 * half) 0 (omega arith), end, or-none seen (getD s (2 * half) 0), and-true))

@@ -1,6 +1,6 @@
 -- Tables of records of one width: a record is read at its place in the bytes, and written as bytes. Assumes nothing.
-use Prim.Native.Nat.{ℕ, zero, suc, _*_, _/_, _≤_, _<_}
-use mathlib.Core.Bool.{Bool}
+use Prim.Native.Nat.{ℕ, zero, suc, _+_, _-_, _*_, _/_, _≤_, _<_}
+use mathlib.Core.Bool.{Bool, cond}
 use mathlib.Core.List.{List, [], _∷_, _++_}
 use lib.Dec.{ltb}
 use lib.ListN.{length, getD}
@@ -28,3 +28,14 @@ Ordered w s = (i j : ℕ) → i ≤ j → j < length s / w → getD s (w * i) 0 
 -- how many of the first n records of width w begin with a byte below `bound`, where these bytes never fall: the number of the first that does not
 abbrev pub countBelow : List ℕ → ℕ → ℕ → ℕ → ℕ
 countBelow s w n bound = firstBad (λ k. ltb (getD s (w * k) 0) bound) n
+
+-- where the records of each owner from 0 to 32 start: how many records have a smaller owner
+unfoldable pub startsOf : ℕ → List ℕ → List ℕ
+startsOf w s = build 33 (λ t. countBelow s w (length s / w) t)
+
+-- the starts once a record of this owner was added; once one was taken out
+unfoldable pub startsMore : ℕ → List ℕ → List ℕ
+startsMore owner l = build 33 (λ t. cond (ltb owner t) (getD l t 0 + 1) (getD l t 0))
+
+unfoldable pub startsLess : ℕ → List ℕ → List ℕ
+startsLess owner l = build 33 (λ t. cond (ltb owner t) (getD l t 0 - 1) (getD l t 0))

@@ -9,7 +9,7 @@ use Rattle.words.proofs.Truth.{below, not-below}
 use Rattle.net.specs.Image.{bodyIn, sitesIn, nodesIn, stateIn, rulesIn}
 use Rattle.format.specs.Verdict.{badSite, badNode, recordsVerdict}
 use Rattle.format.specs.Steps.{stateVerdict}
-use Rattle.format.proofs.Refusals.{part-small, nodes-few, sites-are, site-is, nodes-are, node-is, aspects-are, aspect-is}
+use Rattle.format.proofs.Refusals.{part-small, nodes-few, sites-are, site-is, then-rising, nodes-are, node-is, aspects-are, aspect-is}
 use borrow.Author.Needs.{needs}
 use Rattle.format.proofs.check_records.Statement.{statement}
 use Rattle.format.proofs.check_records.Tie as tie
@@ -47,7 +47,7 @@ first-bad-node-requires : tie.Need-first-bad-node-requires
 first-bad-node-requires c κs =
     let p = c .before .before in
     let a = p .before .before .before .before in
-    nodes-few (now (a .args .s)) (a .pre) (p .before .part2 .ensures .0)
+    (nodes-few (now (a .args .s)) (a .pre) (p .before .part2 .ensures .0), then-rising (now (a .args .s)) (p .before .before .part .ensures .0) (no-site c))
 
 cast-t13 : tie.Need-cast-t13
 cast-t13 c =

@@ -9,7 +9,7 @@ use Rattle.words.proofs.Truth.{below, not-below}
 use Rattle.net.specs.Image.{bodyIn, actionsIn, rowsIn, stateIn}
 use Rattle.format.specs.Verdict.{badAction, badRow}
 use Rattle.format.specs.Steps.{stateVerdict}
-use Rattle.format.proofs.Refusals.{part-small, sites-are, actions-are, action-is, then-ordered, rows-are, row-is, state-is}
+use Rattle.format.proofs.Refusals.{part-small, sites-are, actions-are, action-is, then-ordered, then-good, rows-are, row-is, state-is}
 use borrow.Author.Needs.{needs}
 use Rattle.format.proofs.check_state.Statement.{statement}
 use Rattle.format.proofs.check_state.Tie as tie
@@ -62,7 +62,10 @@ first-bad-state-requires : tie.Need-first-bad-state-requires
 first-bad-state-requires c κs =
     let t = c .before .before in
     let p = t .before .before in
-    then-ordered (now (p .before .before .before .before .args .s)) (p .before .before .part .ensures .0) (p .before .part2 .ensures .0) (no-action t)
+    let s = now (p .before .before .before .before .args .s) in
+    let sites = p .before .before .part .ensures .0 in
+    let actions = p .before .part2 .ensures .0 in
+    (then-ordered s sites actions (no-action t), then-good s sites actions (no-action t))
 
 cast-t14 : tie.Need-cast-t14
 cast-t14 c =

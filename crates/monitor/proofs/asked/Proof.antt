@@ -11,7 +11,7 @@ use Rattle.monitor.proofs.asked.Statement.{statement}
 use Rattle.monitor.proofs.asked.Tie as tie
 
 ask-requires : tie.Need-ask-requires
-ask-requires c κs = let s = c .before .before in rw (c .image-of .ensures) (holds-parts (now (s .args .memory)) (s .pre) .accepted)
+ask-requires c κs = let s = c .before .before in (rw (c .image-of .ensures) (holds-parts (now (s .args .memory)) (s .pre .0) .accepted), rw (c .image-of .ensures) (s .pre .1))
 
 returns : tie.Need-returns
 returns c = let s = c .before .before .before in c .ask .ensures ∙ ap (λ (b : List ℕ). asking (rulesIn b) (stateIn b) (s .args .site)) (c .before .image-of .ensures)

@@ -5,7 +5,7 @@ use mathlib.Core.Path.{_≡_, sym, ap, _∙_}
 use mathlib.Core.Bool.{true, false}
 use mathlib.Core.List.{List}
 use Prim.Native.Nat.{ℕ, suc, _+_, _-_, _*_, _/_, _≤_, _<_}
-use native.Mathlib.Nat.{mul-suc, mul-le-mul-left}
+use native.Mathlib.Nat.{mul-suc, mul-le-mul-left, mul-le-mul-right}
 use native.Mathlib.Omega.{arith}
 use borrow.Author.Needs.{needs}
 use borrow.Author.Tests.{lt-ltb, le-ltb}
@@ -23,14 +23,18 @@ abbrev μ-loop : tie.MeasureT-loop
 μ-loop s w n bound low₀ high₀ low high = high - low
 
 -- record k lies within
-inside : (w n k size : ℕ) → k < n → w * n ≤ size → 0 < w → w * k < size
+inside : (w n k size : ℕ) → k < n → w * n ≤ size → 1 < w → w * k < size
 inside w n k size h l p = omega (arith, mul-suc w k, mul-le-mul-left w h)
 
 loop-holds : tie.Need-loop-holds Inv-loop μ-loop
 loop-holds c = (search needs, search needs, λ k h. omega arith, λ h. omega arith)
 
+-- a record has two bytes or more, so that two numbers of records can be added
+add-middle : tie.Need-add-middle Inv-loop μ-loop
+add-middle c = let s = c .before .before in omega (arith, mul-le-mul-right (s .args .n) (s .pre .1))
+
 abbrev middle : ℕ → ℕ → ℕ
-middle low high = low + (high - low) / 2
+middle low high = (low + high) / 2
 
 mul-if1 : tie.Need-mul-if1 Inv-loop μ-loop
 mul-if1 c =
@@ -72,8 +76,7 @@ count-below-spec =
     Inv-loop
     μ-loop
     loop-holds
-    (λ c. omega arith)
-    (λ c. omega arith)
+    add-middle
     mul-if1
     shared-slice-read-if1
     (λ c. let l = c .before .before .loop in omega (arith, c .shared-slice-known .given (c .before .before .before .args .w * middle (l .low) (l .high))))

@@ -1,12 +1,31 @@
--- `format::actions::form_ok` meets its contract: its tests are the definition's. Assumes nothing.
-use mathlib.Core.Path.{refl, sym}
-use mathlib.Core.Bool.{true}
+-- `format::actions::form_ok` meets its contract: its tests are the definition's, the last of them where the operands are good. Assumes nothing.
+use mathlib.Core.Path.{refl, sym, _∙_}
+use mathlib.Core.Bool.{true, false}
+use native.Mathlib.Omega.{arith}
+use lib.Dec.{T}
 use borrow.Author.Tests.{eq-eqb, ne-eqb}
+use Rattle.words.proofs.Truth.{so, is-T}
+use Rattle.rulebook.specs.Parts.{tagsOf}
 use Rattle.rulebook.proofs.Chains.{last, on, stop, tried}
-use Rattle.format.specs.Steps.{formRules}
+use Rattle.format.specs.Steps.{operandsGood, formRules}
+use Rattle.format.proofs.Binding.{operand-ranged, fields-ranged, fields-parts}
 use borrow.Author.Needs.{needs}
 use Rattle.format.proofs.actions.form_ok.Statement.{statement}
 use Rattle.format.proofs.actions.form_ok.Tie as tie
+
+-- the operands are good where their variables are looked at
+operands-good : (c : tie.Then5) → T (operandsGood (c .before .before .before .before .before .before .before .before .before .before .before .before .args .x))
+operands-good c = is-T _ (so (c .before .operands-ok .ensures) (c .if5 .taken))
+
+parts-ok-requires : tie.Need-parts-ok-requires
+parts-ok-requires c κs =
+    let t4 = c .before .before .before in
+    let x = t4 .before .before .before .before .before .before .before .before .before .args .x in
+    let good = operands-good c in (
+      operand-ranged 1 (omega arith) (omega arith) (tagsOf false false false) (x .target) (is-T _ (so (t4 .before .operand-ok .ensures) (t4 .if4 .taken))),
+      fields-ranged x good 1 (omega arith) (omega arith),
+      fields-ranged x good 2 (omega arith) (omega arith),
+    )
 
 returns : tie.Need-returns
 returns c =
@@ -22,7 +41,7 @@ returns c =
     (on (t3 .before .count-ok .ensures) (t3 .if3 .taken)
     (on (t4 .before .operand-ok .ensures) (t4 .if4 .taken)
     (on (t5 .before .operands-ok .ensures) (t5 .if5 .taken)
-    (last (c .parts-ok .ensures)))))))
+    (last (c .parts-ok .ensures ∙ fields-parts (a .x) (operands-good t5) (a .bound) (a .x .target))))))))
 
 returns-2 : tie.Need-returns-2
 returns-2 c =
@@ -77,6 +96,6 @@ pub form-ok-spec : {M : Type 1} → statement M
 form-ok-spec =
     tie.close
     (tie.spec
-    (λ c κs. search needs) (λ c κs. search needs) (λ c κs. search needs) (λ c κs. search needs) (λ c κs. search needs)
+    (λ c κs. search needs) (λ c κs. search needs) (λ c κs. search needs) (λ c κs. search needs) parts-ok-requires
     returns returns-2 returns-3 returns-4 returns-5
     returns-6)

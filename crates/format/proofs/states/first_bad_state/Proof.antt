@@ -64,14 +64,14 @@ loop-holds : tie.Need-loop-holds Inv-loop μ-loop
 loop-holds c = (omega arith, sym (lower-none _), first-none _)
 
 count-below-requires : tie.Need-count-below-requires Inv-loop μ-loop
-count-below-requires c κs = (omega arith, omega arith, c .before .before .before .before .pre)
+count-below-requires c κs = (omega arith, omega arith, c .before .before .before .before .pre .0)
 
 state-ok-requires : tie.Need-state-ok-requires Inv-loop μ-loop
 state-ok-requires c κs =
     let l = c .before .before .before in
     let b = l .before .before .before in
     let s = now (b .args .actions) in
-    (omega (arith, lower-next s (b .pre) (l .loop .k), l .loop .inv .1, lower-found s (b .pre) (l .loop .k) (c .before .count-below .ensures .0)), omega arith)
+    (omega (arith, lower-next s (b .pre .0) (l .loop .k), l .loop .inv .1, lower-found s (b .pre .0) (l .loop .k) (c .before .count-below .ensures .0)), omega arith, b .pre .1)
 
 returns : tie.Need-returns Inv-loop μ-loop
 returns c =
@@ -81,7 +81,7 @@ returns c =
     let sites = now (b .args .sites) in
     let k = l .loop .k in
     let n = table-length readSite siteWidth sites in
-    let e = tested s (b .pre) sites k (omega arith) (l .loop .inv .1) (lower-found s (b .pre) k (c .before .before .before .count-below .ensures .0)) (c .before .before .site-at .ensures) (c .before .state-ok .ensures) in
+    let e = tested s (b .pre .0) sites k (omega arith) (l .loop .inv .1) (lower-found s (b .pre .0) k (c .before .before .before .count-below .ensures .0)) (c .before .before .site-at .ensures) (c .before .state-ok .ensures) in
     (sym (first-stops (stateOk (actionsIn s) (sitesIn sites)) k (length (sitesIn sites)) (l .loop .inv .2) (fails e (c .if1 .taken)) (omega arith)), omega arith)
 
 loop-again : tie.Need-loop-again Inv-loop μ-loop
@@ -91,8 +91,8 @@ loop-again c =
     let s = now (b .args .actions) in
     let sites = now (b .args .sites) in
     let k = l .loop .k in
-    let f = lower-found s (b .pre) k (c .before .before .before .count-below .ensures .0) in
-    let e = tested s (b .pre) sites k (omega arith) (l .loop .inv .1) f (c .before .before .site-at .ensures) (c .before .state-ok .ensures) in
+    let f = lower-found s (b .pre .0) k (c .before .before .before .count-below .ensures .0) in
+    let e = tested s (b .pre .0) sites k (omega arith) (l .loop .inv .1) f (c .before .before .site-at .ensures) (c .before .state-ok .ensures) in
     (omega arith, rw (add-one k) f, first-more (stateOk (actionsIn s) (sitesIn sites)) k (l .loop .inv .2) (holds e (c .if1 .left)))
 
 returns-2 : tie.Need-returns-2 Inv-loop μ-loop

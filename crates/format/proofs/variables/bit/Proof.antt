@@ -1,25 +1,14 @@
 -- `format::variables::bit` meets its contract: the bit of one of the eight variables fits a byte. Assumes nothing.
-use mathlib.Core.Path.{_≡_, refl}
-use mathlib.Core.Bool.{Bool, true, false, cond, _&&_}
-use Prim.Native.Nat.{ℕ, _^_, _<_}
+use Prim.Native.Nat.{_<_}
 use native.Mathlib.Omega.{arith}
-use lib.Dec.{eqb, ltb}
 use lib.Pow.{pow-lt}
-use borrow.Author.Tests.{ltb-true}
-use Rattle.words.proofs.Truth.{both-right}
+use borrow.Author.Tests.{eq-eqb, ne-eqb, lt-ltb}
 use Rattle.format.specs.Steps.{bitOf}
 use Rattle.format.proofs.variables.bit.Statement.{statement}
 use Rattle.format.proofs.variables.bit.Tie as tie
 
 small : (c : tie.Then1) → c .before .before .args .x .value < 8
-small c =
-    let a = c .before .before .args in
-    ltb-true (a .x .value) 8 (both-right (eqb (a .x .tag) (a .tag)) (both-right (a .used) (c .if1 .taken)))
-
--- two choices that are one
-chosen : (a b : Bool) (x : ℕ) → cond a (cond b x 0) 0 ≡ cond (a && b) x 0
-chosen true b x = refl
-chosen false b x = refl
+small c = c .before .before .pre (c .if1 .taken)
 
 cast-result : tie.Need-cast-result
 cast-result c = omega (arith, small c)
@@ -29,15 +18,11 @@ shl-result c = small c
 
 returns : tie.Need-returns
 unfolding bitOf
-returns c =
-    let a = c .before .before .args in
-    rw (chosen (a .used) (eqb (a .x .tag) (a .tag) && ltb (a .x .value) 8) (2 ^ a .x .value), c .if1 .taken) (omega (arith, pow-lt (small c)))
+returns c = rw (eq-eqb _ _ (c .if1 .taken), lt-ltb _ _ (small c)) (omega (arith, pow-lt (small c)))
 
 returns-2 : tie.Need-returns-2
 unfolding bitOf
-returns-2 c =
-    let a = c .before .before .args in
-    rw (chosen (a .used) (eqb (a .x .tag) (a .tag) && ltb (a .x .value) 8) (2 ^ a .x .value), c .if1 .left)
+returns-2 c = rw (ne-eqb _ _ (c .if1 .left))
 
 pub bit-spec : {M : Type 1} → statement M
 bit-spec = tie.close (tie.spec

@@ -18,12 +18,12 @@ count-below-requires-2 c κs = let s = c .before .before in (mul-div-le (length 
 sub-t7 : tie.Need-sub-t7
 sub-t7 c =
     let s = c .before .before .before in
-    omega (arith, owned-inside (λ l i. getD l i 0) (λ v. v) 0 (s .args .w) (now (s .args .body)) (λ i. refl) (s .pre .2) (s .args .owner))
+    omega (arith, owned-inside (λ l i. getD l i 0) (λ v. v) 0 (λ l i. refl) (s .args .w) (now (s .args .body)) (s .pre .2) (s .args .owner))
 
 returns : tie.Need-returns
 returns c =
     let s = c .before .before .before in
-    let o = owned-inside (λ l i. getD l i 0) (λ v. v) 0 (s .args .w) (now (s .args .body)) (λ i. refl) (s .pre .2) (s .args .owner) in
+    let o = owned-inside (λ l i. getD l i 0) (λ v. v) 0 (λ l i. refl) (s .args .w) (now (s .args .body)) (s .pre .2) (s .args .owner) in
     record { start = c .before .count-below .ensures .0; end = omega arith; inside = omega arith }
 
 pub group-spec : {M : Type 1} → statement M

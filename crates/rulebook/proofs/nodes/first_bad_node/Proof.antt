@@ -54,7 +54,7 @@ depth-at-requires : tie.Need-depth-at-requires Inv-loop μ-loop
 depth-at-requires c κs =
     let p = c .before .before in
     let l = p .loop in
-    (omega arith, length-take-le (l .k) (l .row) (omega arith), row-shallow (places p) (nodes p) _ (l .row) (l .k) (l .inv .4) (l .inv .1))
+    (omega arith, length-take-le (l .k) (l .row) (omega arith), row-shallow (places p) (nodes p) _ (l .row) (l .k) (l .inv .4) (l .inv .1), p .before .before .before .pre .1)
 
 returns : tie.Need-returns Inv-loop μ-loop
 returns c =
