@@ -75,12 +75,12 @@ static uint16_t add_condition(struct draft *draft, uint16_t place)
     return top;
 }
 
-/* Adds a recommendation of depth 8 that says yes and needs every node below it. */
+/* Adds a recommendation of depth 8 that says yes and needs every node below it: no operator is decided by its first value. */
 static uint16_t add_recommendation(struct draft *draft)
 {
     static const uint8_t kinds[] = {NODE_VALUE_AND, NODE_VALUE_OR, NODE_GATHER, NODE_CONSENSUS, NODE_IMPLIES, NODE_GATHER};
     uint16_t always = add_node(draft, (struct node){.kind = NODE_ALWAYS});
-    uint16_t below = add_node(draft, (struct node){.kind = NODE_CONSTANT, .a = 1});
+    uint16_t below = add_node(draft, (struct node){.kind = NODE_CONSTANT, .a = 0});
     uint16_t top = add_node(draft, (struct node){.kind = NODE_OF_CONDITION, .a = always});
     for (unsigned depth = 3; depth <= DEPTH_MOST; depth++) {
         uint16_t next = over(draft, kinds[depth - 3], top, below);

@@ -1,12 +1,11 @@
 -- The laws of the operators: of gather, bit by bit; and that each of the six gives a value. Assumes nothing.
-use mathlib.Core.Path.{_≡_, refl, sym, ap, _∙_}
+use mathlib.Core.Path.{_≡_, refl}
 use mathlib.Core.Bool.{Bool, true, false, cond, _&&_}
-use mathlib.Core.List.{List, [], _∷_}
-use Prim.Native.Nat.{ℕ, zero, suc, _+_, _*_, _/_, _%_, _≤_, _<_, max, min}
+use mathlib.Core.List.{[], _∷_}
+use Prim.Native.Nat.{ℕ, zero, suc, _/_, _%_, _<_, max}
 use native.Mathlib.Omega.{arith}
 use lib.Dec.{T, ltb, eqb, ltb→lt, lt→ltb, leb→le, eqb→eq}
 use borrow.Author.Tests.{le-ltb}
-use Rattle.words.specs.Lists.{all}
 use Rattle.words.proofs.Truth.{is-T, fails, both-T, T-both, same-truth}
 use Rattle.words.proofs.Lists.{all-getD}
 use Rattle.belnap.specs.Belnap.{for, against, grants, andOf, orOf, consensusOf, gatherOf, impliesOf, beforeOf, operateOf, settles}

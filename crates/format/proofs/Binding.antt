@@ -10,16 +10,17 @@ use lib.Bits.{bitAnd, bitOr, or-lt, and-lt, or-zero-r, and-zero-r}
 use lib.Dec.{T, ltb, leb, eqb, ltb→lt, leb→le, le→leb, eqb→eq}
 use lib.ListN.{length, getD, take, drop}
 use lib.Pow.{pow-lt}
-use borrow.Author.Tests.{eqb-true, eqb-false, ne-eqb, eq-eqb, ltb-true, ltb-false, le-leb}
+use borrow.Author.Tests.{eqb-true, eqb-false, ne-eqb, eq-eqb, ltb-true, ltb-false}
 use Rattle.words.specs.Lists.{all, some, count}
 use Rattle.words.proofs.Lists.{all-getD}
-use Rattle.words.proofs.Truth.{both-T, T-both, is-T, both-right}
+use Rattle.words.proofs.Truth.{both-T, T-both, is-T, both-right, or-right}
 use Rattle.words.proofs.Numbers.{written}
 use Rattle.net.specs.Records.{noOperand}
 use Rattle.net.specs.Net.{fieldsOf}
 use Rattle.net.specs.declared.Operand.{Operand}
 use Rattle.net.specs.declared.Action.{Action}
 use Rattle.rulebook.specs.Parts.{tagsOf, operandOk, operandsOk, unused, speaks}
+use Rattle.rulebook.proofs.Cuts.{ranged, good-ranged, every-field}
 use Rattle.format.specs.Steps.{inSet, Ranged, EachRanged, bitOf, setOf, apart, partsOk, operandsGood}
 use Rattle.format.proofs.Masks.{in-or, in-and, in-none, in-one, same-set}
 
@@ -148,19 +149,16 @@ module _ (tag : ℕ) (low : 0 < tag) where
   apart-used (suc n) [] t = refl
   apart-used (suc n) (x ∷ l) t = rw (set-used n l t, apart-used n l t)
 
+  -- a part with the tag, of good ones, speaks of one of the eight
+  ranged-value : (x : Operand) → T (ranged tag x) → Ranged tag x
+  ranged-value x t e = ltb→lt (x .value) 8 (rw (eq-eqb (x .tag) tag e) at t)
+
   module _ (high : tag ≤ 2) (tags : List ℕ) where
     pub operand-ranged : (x : Operand) → T (operandOk tags x) → Ranged tag x
-    operand-ranged x t e =
-        ltb→lt (x .value) 8 (simp (ne-eqb (x .tag) 0 (λ z. omega arith), le-leb (x .tag) 2 (omega arith)) at (both-T (some (eqb (x .tag)) tags) _ t .1))
+    operand-ranged x t = ranged-value x (good-ranged tag low tags x high t)
 
     operands-ranged : (n : ℕ) (l : List Operand) → T (operandsOk tags n l) → EachRanged tag l
-    operands-ranged zero l t k e = absurd (eqb-false _ tag (unused-other (getD l k noOperand) (all-getD unused l k noOperand t tt)) e)
-    operands-ranged (suc n) [] t k e = omega arith
-    operands-ranged (suc n) (x ∷ l) t zero e =
-        operand-ranged x (both-T (operandOk tags x) _ (both-T (all (operandOk tags) (take (suc n) (x ∷ l))) _ t .0) .0) e
-    operands-ranged (suc n) (x ∷ l) t (suc k) e =
-        let q = both-T (all (operandOk tags) (take (suc n) (x ∷ l))) (all unused (drop n l)) t in
-        operands-ranged n l (T-both (all (operandOk tags) (take n l)) (all unused (drop n l)) (both-T (operandOk tags x) _ (q .0) .1) (q .1)) k e
+    operands-ranged n l t k = ranged-value (getD l k noOperand) (all-getD (ranged tag) l k noOperand (every-field tag low high tags [] n l t) (or-right (not (eqb 0 tag)) true tt))
 
 -- ---- an action with good operands: its four fields speak of what those in use do
 module _ (x : Action) (good : T (operandsGood x)) where

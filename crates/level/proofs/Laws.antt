@@ -1,12 +1,12 @@
 -- The laws of levels: dominance is an order, and the join is its least upper bound, since union of masks is associative, commutative
 -- and idempotent, and y's categories are x's exactly if their union is x's.
 -- Assumes nothing.
-use mathlib.Core.Path.{_≡_, refl, sym, ap, _∙_}
+use mathlib.Core.Path.{_≡_, refl}
 use mathlib.Core.Bool.{Bool, true, false, _&&_}
-use Prim.Native.Nat.{ℕ, zero, suc, _+_, _*_, _/_, _%_, _≤_, _<_, max}
+use Prim.Native.Nat.{ℕ, _/_, _%_, _≤_, _<_, max}
 use native.Mathlib.Omega.{arith}
 use lib.Arith.{bin-ind}
-use lib.Dec.{T, leb, eqb, leb→le, le→leb, eqb→eq, eqb-refl, lit<}
+use lib.Dec.{T, leb, eqb, leb→le, le→leb, eqb→eq, eqb-refl}
 use lib.Bits.{bitAnd, bitOr, or-step, or-add-and, or-comm, or-self, or-lt, or-zero-r, and-le-r}
 use Rattle.level.specs.Level.{rank, categories, bottom, top, dominates, join}
 

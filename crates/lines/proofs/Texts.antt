@@ -1,6 +1,5 @@
 -- Texts put one after the other are one text; and how long a text is at most, whatever its numbers. Assumes nothing.
 use mathlib.Core.Path.{_≡_, refl, sym, ap, _∙_}
-use mathlib.Core.Bool.{true, false}
 use mathlib.Core.List.{List, [], _∷_, _++_, append-assoc, append-nil}
 use Prim.Native.Nat.{ℕ, zero, suc, _+_, _-_, _*_, _^_, _≤_, _<_}
 use native.Mathlib.Nat.{add-zero, add-assoc, zero-add, mul-suc, le-trans, pow-le-pow-right}
@@ -12,7 +11,6 @@ use lib.Seq.{length-take-le, drop-drop}
 use borrow.Author.Tests.{le-leb, lt-leb}
 use Rattle.io.specs.Counts.{Counts}
 use Rattle.io.specs.Digits.{digits, Fewest}
-use Rattle.words.specs.Lists.{firstBad}
 use Rattle.words.specs.Bytes.{splice}
 use Rattle.words.proofs.First.{first-is, first-le}
 use Rattle.words.proofs.Splices.{splice-past, splice-zero}

@@ -1,5 +1,5 @@
 -- Asking, step by step: what each test of the code says of the plan. Assumes nothing.
-use mathlib.Core.Path.{_≡_, refl, sym, ap, _∙_, subst}
+use mathlib.Core.Path.{_≡_, refl, sym, ap, _∙_}
 use mathlib.Core.Bool.{Bool, true, false, cond}
 use mathlib.Core.List.{List}
 use Prim.Native.Nat.{ℕ, _+_, _-_, _*_, _/_, _≤_, _<_}
@@ -15,8 +15,8 @@ use Rattle.words.proofs.First.{found-at}
 use Rattle.words.proofs.Tables.{table-length, table-at}
 use Rattle.belnap.specs.Belnap.{grants}
 use Rattle.net.specs.Records.{siteWidth, actionWidth, noSite, noAction, readSite, readAction}
-use Rattle.net.specs.Net.{mostSites, State, Rules, siteAt, actionAt, program, names, placeOf}
-use Rattle.net.specs.Image.{mostOf, contentsOk, bodyIn, sitesIn, nodesIn, aspectsIn, actionsIn, rowsIn, stateIn, rulesIn}
+use Rattle.net.specs.Net.{mostSites, State, siteAt, actionAt, program, names, placeOf}
+use Rattle.net.specs.Image.{mostOf, contentsOk, bodyIn, sitesIn, nodesIn, aspectsIn, rowsIn, stateIn, rulesIn}
 use Rattle.net.specs.declared.Site.{Site}
 use Rattle.net.specs.declared.Action.{Action}
 use Rattle.net.specs.declared.Row.{Row}
@@ -25,7 +25,7 @@ use Rattle.format.specs.Verdict.{verdictOf}
 use Rattle.format.specs.declared.Verdict.the-variants.{Accepted}
 use Rattle.format.proofs.Verdicts.{accepted-right}
 use Rattle.policy.specs.House.{Act, actOf, rulesOf, judge}
-use Rattle.stepping.specs.Step.{Start, stop, go, resolvedAction, next, doing, going, start, oldest, refuse, put, getting, allowed, judged, planned, asking, isGranted}
+use Rattle.stepping.specs.Step.{go, resolvedAction, next, going, start, oldest, refuse, put, getting, planned, asking, isGranted}
 use Rattle.stepping.specs.declared.Answer.{Answer}
 use Rattle.stepping.specs.declared.Answer.the-variants.{Granted, Done, Denied, NoMatch, NoPlace, NoSite}
 use Rattle.monitor.specs.Plan.{toward, nextIn, planIn}

@@ -1,15 +1,14 @@
 -- What each public call's tests say of its definition, test by test in the code's order. Assumes nothing.
-use mathlib.Core.Path.{_≡_, refl, sym, ap, _∙_}
-use mathlib.Core.Bool.{Bool, true, false, not, cond, _&&_, and-false, and-true}
-use mathlib.Core.List.{List, _++_, map}
+use mathlib.Core.Path.{_≡_, _∙_}
+use mathlib.Core.Bool.{Bool, true, false, and-false}
+use mathlib.Core.List.{List}
 use Prim.Native.Nat.{ℕ, _≤_, _<_}
 use native.Mathlib.Omega.{arith}
-use lib.Dec.{leb, ltb, eqb}
-use lib.ListN.{length, take, drop, length-take}
+use lib.ListN.{length, drop, length-take}
 use borrow.Author.Tests.{eq-eqb, ne-eqb, lt-ltb, le-ltb, lt-leb}
-use Rattle.words.specs.Bytes.{Bytes, allZero, padded, splice}
+use Rattle.words.specs.Bytes.{allZero, padded, splice}
 use Rattle.net.specs.Image.{memorySize, endIn}
-use Rattle.format.specs.Verdict.{leastSize, mostSize, numberOf, isAccepted, sizeOk, verdictOf}
+use Rattle.format.specs.Verdict.{mostSize, numberOf, isAccepted, sizeOk, verdictOf}
 use Rattle.format.specs.declared.Verdict.{Verdict}
 use Rattle.format.specs.declared.Verdict.the-variants.{Accepted, Small}
 use Rattle.stepping.specs.Step.{step}

@@ -1,8 +1,8 @@
 -- Doing what asking found: a granted answer stands for a put or a get that memory is ready for, and any other leaves the net. Assumes nothing.
-use mathlib.Core.Path.{_≡_, refl, sym, ap, _∙_, subst}
+use mathlib.Core.Path.{_≡_, refl, sym, ap, _∙_}
 use mathlib.Core.Bool.{Bool, true, false, cond}
 use mathlib.Core.List.{List}
-use Prim.Native.Nat.{ℕ, suc, _<_}
+use Prim.Native.Nat.{ℕ, _<_}
 use lib.Dec.{T, eqb}
 use lib.ListN.{length}
 use borrow.Author.Tests.{eqb-true}
@@ -12,9 +12,8 @@ use Rattle.words.proofs.Truth.{no, both-left}
 use Rattle.net.specs.Records.{siteFits}
 use Rattle.net.specs.Net.{State, Rules, rowAt}
 use Rattle.policy.specs.House.{Act, actOf}
-use Rattle.format.specs.Format.{wellFormed}
 use Rattle.format.proofs.Verdicts.{formed-fits}
-use Rattle.stepping.specs.Step.{Out, Plan, refuse, put, get, hasRoom, putAfter, gotAfter, asking, done, step, isGranted}
+use Rattle.stepping.specs.Step.{Plan, refuse, put, get, hasRoom, putAfter, gotAfter, asking, done, step, isGranted}
 use Rattle.stepping.specs.declared.Answer.{Answer}
 use Rattle.stepping.specs.declared.Answer.the-variants.{Granted, Done, Denied, NoMatch, NoPlace, NoSite, NoNet}
 use Rattle.stepping.proofs.StepLaws.{Begun, chosen-hits, asked-put, asked-get}

@@ -1,23 +1,23 @@
 -- Memory holds a net exactly if loading some accepted image leaves it so: the test finds the image at the front, by the length that its header
 -- says, and zeros behind it. Assumes nothing.
-use mathlib.Core.Path.{_≡_, refl, sym, ap, _∙_, subst}
-use mathlib.Core.Bool.{Bool, true, false, _&&_}
+use mathlib.Core.Path.{_≡_, refl, sym, ap, _∙_}
+use mathlib.Core.Bool.{true}
 use mathlib.Core.List.{List, [], _∷_, _++_}
-use Prim.Native.Nat.{ℕ, zero, suc, _+_, _*_, _-_, _≤_, _<_}
+use Prim.Native.Nat.{ℕ, zero, suc, _+_, _-_, _≤_, _<_}
 use native.Mathlib.Omega.{arith}
-use lib.Dec.{T, leb, eqb, eqb→eq}
-use lib.ListN.{length, getD, take, drop, length-append, length-replicate, take-append-drop, length-drop, length-take}
-use lib.Seq.{getD-take, length-take-le, drop-at}
-use borrow.Author.Tests.{eq-eqb, eqb-true, leb-true}
+use lib.Dec.{T, eqb}
+use lib.ListN.{length, take, drop, take-append-drop, length-drop, length-take}
+use lib.Seq.{getD-take, drop-at}
+use borrow.Author.Tests.{eqb-true}
 use Rattle.words.specs.Bytes.{Bytes, u16At, u32At, blank, allZero, padded}
-use Rattle.words.proofs.Truth.{both-T, both-left, both-right, is-T}
+use Rattle.words.proofs.Truth.{both-left, both-right}
 use Rattle.net.specs.Net.{State, Rules, Net}
-use Rattle.net.specs.Image.{memorySize, widthOf, countIn, offsetIn, startIn, endIn, contentsOk, netOf, imageOf, memoryOf}
+use Rattle.net.specs.Image.{memorySize, endIn, netOf, imageOf}
 use Rattle.net.proofs.Bodies.{contents, least-length, most-length, bytes-take}
 use Rattle.net.proofs.Padding.{length-padded, take-padded, u16At-padded, u32At-padded}
-use Rattle.net.proofs.Images.{Fits, bytes-of-image}
+use Rattle.net.proofs.Images.{Fits}
 use Rattle.format.specs.Format.{wellFormed}
-use Rattle.format.specs.Verdict.{leastSize, numberOf, isAccepted, sizeOk, verdictOf}
+use Rattle.format.specs.Verdict.{isAccepted, sizeOk, verdictOf}
 use Rattle.format.specs.declared.Verdict.{Verdict}
 use Rattle.format.specs.declared.Verdict.the-variants.{Accepted, Size, Edition, Contents, BadSite, BadNode, BadAspect, BadAction, BadRow, BadState, Small}
 use Rattle.monitor.specs.Memory.{Held, imageIn, holdsNet, rulesHeld, stateHeld, memoryWith}

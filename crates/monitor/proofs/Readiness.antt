@@ -1,18 +1,16 @@
 -- What memory that is ready for a step gives to those who act on it: where its records lie, and that there is space for one more row. Assumes nothing.
-use mathlib.Core.Path.{_≡_, refl, sym, ap, _∙_}
+use mathlib.Core.Path.{_≡_, refl, ap, _∙_}
 use mathlib.Core.List.{List}
-use Prim.Native.Nat.{ℕ, suc, _+_, _*_, _≤_, _<_}
+use Prim.Native.Nat.{ℕ, _+_, _*_, _≤_, _<_}
 use native.Mathlib.Omega.{arith}
 use lib.ListN.{length}
 use Rattle.words.specs.Bytes.{Bytes}
-use Rattle.net.specs.Net.{siteAt}
-use Rattle.net.specs.Image.{memorySize, widthOf, countIn, offsetIn, endIn, imageOf, netOf, memoryOf}
+use Rattle.net.specs.Image.{widthOf, countIn, offsetIn, endIn, netOf, memoryOf}
 use Rattle.net.proofs.Bodies.{mostLength, most-length}
-use Rattle.net.proofs.Images.{Fits}
 use Rattle.net.proofs.Memory.{memory-says}
 use Rattle.format.proofs.Verdicts.{accepted-right}
 use Rattle.format.proofs.Ordered.{accepted-rows}
-use Rattle.monitor.specs.Memory.{holdsNet, imageIn, stateHeld}
+use Rattle.monitor.specs.Memory.{imageIn, stateHeld}
 use Rattle.monitor.specs.Plan.{Sited, Ready}
 use Rattle.monitor.proofs.Holding.{holds-parts, held-memory, held-fits}
 

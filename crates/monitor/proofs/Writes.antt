@@ -1,11 +1,10 @@
 -- What the writes of a granted step come to: each write of a record is a change of the net that memory holds, and after the last one memory is that
 -- of the net after the step. Assumes nothing.
-use mathlib.Core.Path.{_≡_, refl, sym, ap, _∙_}
+use mathlib.Core.Path.{_≡_, sym, ap, _∙_}
 use mathlib.Core.List.{List}
 use Prim.Native.Nat.{ℕ, _+_, _-_, _*_, _≤_, _<_}
-use native.Mathlib.Omega.{arith}
 use lib.Dec.{T}
-use lib.ListN.{length, set, length-set}
+use lib.ListN.{length, set}
 use lib.Seq.{lt-length-set}
 use Rattle.words.specs.Lists.{all, insertAt, removeAt}
 use Rattle.words.specs.Bytes.{splice, inserted, removed, u16Bytes}

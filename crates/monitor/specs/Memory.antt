@@ -2,13 +2,13 @@
 use mathlib.Core.Path.{_≡_}
 use Prim.Native.Nat.{ℕ}
 use mathlib.Core.Bool.{Bool, cond, _&&_, _||_}
-use mathlib.Core.List.{List, [], _∷_, _++_, map}
+use mathlib.Core.List.{List, _++_, map}
 use lib.Dec.{ltb, eqb}
 use lib.ListN.{length, take, drop}
 use Rattle.words.specs.Bytes.{Bytes, allZero, padded, splice}
 use Rattle.words.specs.Tables.{startsOf}
 use Rattle.net.specs.Records.{rowWidth}
-use Rattle.net.specs.Net.{State, Rules, Net}
+use Rattle.net.specs.Net.{State, Rules}
 use Rattle.net.specs.Image.{memorySize, memoryOf, endIn, bodyIn, stateIn, rulesIn}
 use Rattle.format.specs.Verdict.{isAccepted, verdictOf}
 use Rattle.format.specs.declared.Verdict.{Verdict}

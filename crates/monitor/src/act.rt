@@ -2,9 +2,9 @@
 ghost use mathlib.Core.Path.{_≡_};
 ghost use mathlib.Core.Bool.{true, cond};
 ghost use mathlib.Core.List.{map};
-ghost use Prim.Native.Nat.{ℕ, suc, _+_, _-_, _*_, _/_, _≤_, _<_};
+ghost use Prim.Native.Nat.{suc, _+_, _-_, _*_, _/_, _≤_, _<_};
 ghost use lib.Dec.{T, ltb};
-ghost use lib.ListN.{length, getD, set};
+ghost use lib.ListN.{length, set};
 ghost use Rattle.words.specs.Bytes.{splice, inserted, removed, u16Bytes};
 ghost use Rattle.level.specs.Level.{join};
 ghost use Rattle.net.specs.Records.{rowWidth, siteFits, siteBytes, rowBytes};
@@ -17,6 +17,7 @@ ghost use Rattle.stepping.specs.Step.{advance, marked, loses, informed, rowPut,
 ghost use Rattle.monitor.specs.Memory.{holdsNet, imageIn, rulesHeld, stateHeld, memoryWith};
 ghost use Rattle.monitor.specs.Plan.{informedBy, planIn, Sited, Ready, Reads};
 use crate::ask::Asked;
+use format::STORE_LIMIT;
 use level::Level;
 use net::Action;
 use net::Operand;
@@ -101,9 +102,6 @@ fn remove_row(memory: &mut [u8], base: usize, n: usize, k: usize)
     words::put(memory, 38, &counted);
 }
 
-// The most rows of a store.
-pub const STORE: usize = 16;
-
 // The record of site i of an image.
 fn site_of(image: &[u8], i: usize) -> Site
     requires { ⌜ (contentsOk (now image) ≡ true) × (i < length (stateIn (now image) .sites)) ⌝ }
@@ -130,7 +128,7 @@ pub struct Store {
     pub room: bool,
 }
 
-// The store of site t of an image: its rows end at `end`, and if the row STORE before that is t's too, it is full.
+// The store of site t of an image: its rows end at `end`, and if the row STORE_LIMIT before that is t's too, it is full.
 fn store_of(image: &[u8], t: usize) -> Store
     requires { ⌜ (contentsOk (now image) ≡ true) × (t < 65536) × Ordered rowWidth (bodyIn (now image) 5) ⌝ }
     ensures { λ r. ⌜ (r .place ≡ placeFor t (stateIn (now (image .entry)) .rows)) × (r .room ≡ ltb (held t (stateIn (now (image .entry)) .rows)) storeLimit) ⌝ }
@@ -138,7 +136,7 @@ fn store_of(image: &[u8], t: usize) -> Store
     let rows = format::part(image, 5);
     let n = rows.len() / 10;
     let end = words::count_below(rows, 10, n, t + 1);
-    if end < STORE {
+    if end < STORE_LIMIT {
         return Store {
             place: end,
             room: true,
@@ -146,7 +144,7 @@ fn store_of(image: &[u8], t: usize) -> Store
     }
     Store {
         place: end,
-        room: rows[10 * (end - STORE)] as usize != t,
+        room: rows[10 * (end - STORE_LIMIT)] as usize != t,
     }
 }
 

@@ -7,7 +7,7 @@ mod ask;
 
 ghost use mathlib.Core.Path.{_≡_};
 ghost use mathlib.Core.Bool.{true};
-ghost use Prim.Native.Nat.{ℕ, _+_, _≤_, _<_};
+ghost use Prim.Native.Nat.{_+_, _<_};
 ghost use lib.ListN.{length};
 ghost use denote.Ref.{ptr};
 ghost use Rattle.format.specs.Verdict.{verdictOf, bodyOf, bodyPlace};
@@ -83,7 +83,7 @@ fn holds(memory: &[u8]) -> bool
     if format::number(format::check(&memory[0..end])) != 0 {
         return false;
     }
-    words::zeros(&memory[end..])
+    words::zeros_from(memory, end)
 }
 
 // Writes the image of the net that memory holds.
@@ -126,7 +126,7 @@ fn recount(starts: &mut [u16; 33], capability: u8, t: usize)
     ensures { λ _. ⌜ now (starts .exit) ≡ startsAfter capability t (now (starts .entry)) ⌝ }
 {
     if capability == 1 {
-        if starts[t + 1] - starts[t] < act::STORE as u16 {
+        if starts[t + 1] - starts[t] < format::STORE_LIMIT as u16 {
             words::starts_more(starts, t);
         }
         return;

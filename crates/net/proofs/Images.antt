@@ -1,8 +1,8 @@
 -- The image of a net and the net of an image: the header says how many records there are, so each body is found where it was put, and its
 -- records are read back; and bytes whose header is right are that header and these bodies. Assumes nothing.
-use mathlib.Core.Bool.{Bool, true, _&&_, and-assoc}
+use mathlib.Core.Bool.{Bool, true}
 use mathlib.Core.List.{List, [], _∷_, _++_, append-assoc, append-nil}
-use mathlib.Core.Path.{_≡_, refl, sym, ap, _∙_}
+use mathlib.Core.Path.{_≡_, refl, ap, _∙_}
 use Prim.Native.Nat.{ℕ, zero, suc, _+_, _*_, _/_, _≤_, _<_}
 use native.Mathlib.Omega.{arith}
 use lib.Dec.{T, ltb→lt}
@@ -12,7 +12,7 @@ use Rattle.words.specs.Lists.{all}
 use Rattle.words.specs.Bytes.{Bytes, u16At}
 use Rattle.words.specs.Tables.{build, tableOf, encodeAll}
 use Rattle.words.proofs.Truth.{both-T, T-both, is-T}
-use Rattle.words.proofs.Lists.{all-getD}
+use Rattle.words.proofs.Lists.{all-getD, all-append}
 use Rattle.words.proofs.Tables.{Codec, length-encodeAll, decode-encode, encode-decode}
 use Rattle.net.specs.Records.{siteWidth, nodeWidth, aspectWidth, actionWidth, rowWidth, noSite, noNode, noAspect, noAction, noRow, siteBytes, nodeBytes, aspectBytes, actionBytes, rowBytes, siteFits, nodeFits, aspectFits, actionFits, rowFits}
 use Rattle.net.specs.Net.{Net, mostSites, mostNodes, mostAspects, mostActions, mostRows}
@@ -205,11 +205,6 @@ module _ (n : Net) (f : Fits n) where
   net-of-image = net-of-laid n f (imageOf n) image-laid
 
 -- ---- the bytes of an image are bytes
--- a test of two lists
-all-append : {A : Type 0} (p : A → Bool) (a b : List A) → all p (a ++ b) ≡ (all p a && all p b)
-all-append p [] b = refl
-all-append p (x ∷ a) b = rw (all-append p a b) (sym (and-assoc (p x) (all p a) (all p b)))
-
 -- those of records that fit
 run-small : {A : Type 0} (K : Codec A) → ((x : A) → T (K .fits x) → all isByte (K .enc x) ≡ true)
     → (xs : List A) → T (all (K .fits) xs) → all isByte (encodeAll (K .enc) xs) ≡ true

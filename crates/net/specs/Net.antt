@@ -1,7 +1,7 @@
 -- What a net is: five flat lists of records, in the image's order, each record with its owner inside. Assumes nothing.
 use Prim.Native.Nat.{ℕ, _<_}
 use mathlib.Core.Bool.{Bool, true, false}
-use mathlib.Core.List.{List, [], _∷_, map}
+use mathlib.Core.List.{List, _∷_, map}
 use lib.Dec.{eqb}
 use lib.ListN.{length, getD, take}
 use Rattle.words.specs.Lists.{first, those, count}

@@ -1,13 +1,13 @@
 -- History: HS and HO only rise, since a step changes them by joins alone; what is read or taken is in HS from then on; and a put or take goes
 -- only to a store whose class dominates HS. So a job that has read high is never granted a write below it. Assumes nothing.
-use mathlib.Core.Path.{_≡_, refl, sym, ap, _∙_, subst}
-use mathlib.Core.Bool.{Bool, true, false, cond, _&&_}
+use mathlib.Core.Path.{_≡_, refl, ap, _∙_, subst}
+use mathlib.Core.Bool.{Bool, true, false}
 use mathlib.Core.List.{List, [], _∷_}
 use Prim.Native.Nat.{ℕ, zero, suc, _<_}
-use lib.Dec.{T, eqb}
-use lib.ListN.{length, set}
+use lib.Dec.{T}
+use lib.ListN.{length}
 use lib.Seq.{getD-set-same, lt-length-set}
-use Rattle.words.proofs.Truth.{is-T, T-is, both-T}
+use Rattle.words.proofs.Truth.{is-T, both-T}
 use Rattle.level.specs.Level.{dominates, join}
 use Rattle.level.proofs.Laws.{dominates-refl, dominates-trans, join-left}
 use Rattle.belnap.specs.Belnap.{grants, gatherOf}
@@ -17,7 +17,7 @@ use Rattle.net.specs.Net.{State, Rules, siteAt}
 use Rattle.net.specs.declared.Site.{Site}
 use Rattle.policy.specs.House.{Act, termsOf, termsIn, mandatory, policy, judge}
 use Rattle.policy.proofs.Mandatory.{mandatory-put, mandatory-take}
-use Rattle.stepping.specs.Step.{doing, change, advance, marked, loses, informed, boundBy, hasRoom, putAfter, gotAfter, Plan, refuse, put, get, asking, done, step, final}
+use Rattle.stepping.specs.Step.{change, advance, marked, loses, informed, boundBy, hasRoom, putAfter, gotAfter, Plan, refuse, put, get, asking, done, step, final}
 use Rattle.stepping.proofs.Informed.{informed-knows}
 use Rattle.stepping.proofs.StepLaws.{asked-put, asked-get}
 

@@ -1,14 +1,13 @@
 -- A granted take or read chose a row at the target that agrees in the count and in every field that does not bind: that is what fitting
 -- says, field by field. Assumes nothing.
 use mathlib.Core.Path.{_≡_, refl, ap}
-use mathlib.Core.Bool.{Bool, true, false, _&&_, _||_}
+use mathlib.Core.Bool.{Bool, true, false, _||_}
 use mathlib.Core.List.{List, [], _∷_}
 use Prim.Native.Nat.{ℕ, zero, suc, _<_}
 use native.Mathlib.Nat.{le-of-suc-le-suc, not-suc-le-zero}
 use lib.Dec.{T, eqb, eqb→eq}
 use lib.ListN.{length, getD}
-use borrow.Author.Tests.{eqb-true}
-use Rattle.words.proofs.Truth.{is-T, T-is, both-T}
+use Rattle.words.proofs.Truth.{is-T, both-T}
 use Rattle.net.specs.Records.{noOperand}
 use Rattle.net.specs.Net.{State, Rules, rowAt, isBinding, fieldsOf, valuesOf}
 use Rattle.net.specs.declared.Operand.{Operand}

@@ -22,7 +22,7 @@ use Rattle.format.specs.Format.{wellFormed, netRules}
 use Rattle.policy.specs.House.{Act, judge}
 use Rattle.policy.specs.Adding.{Adds}
 use Rattle.policy.proofs.More.{Own, judge-fewer}
-use Rattle.stepping.specs.Step.{Out, Start, stop, go, start, Plan, put, refuse, getting, chosen, allowed, judged, planned, asking, done, step, final, isGranted}
+use Rattle.stepping.specs.Step.{Out, Start, stop, go, start, put, getting, chosen, allowed, judged, planned, asking, done, step, final, isGranted}
 use Rattle.stepping.proofs.StepLaws.{not-granted-leaves}
 use Rattle.stepping.specs.declared.Answer.{Answer}
 use Rattle.stepping.specs.declared.Answer.the-variants.{Granted, Done, Denied, NoMatch, NoPlace, NoSite, NoNet}

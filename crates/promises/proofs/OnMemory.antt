@@ -1,31 +1,24 @@
 -- The public calls on memory: steps, runs, loads and saves fit together. Memory that holds a net is the memory of that net, and a step keeps it
 -- so; what is said of nets is thus said of memory. Assumes nothing.
 use mathlib.Core.Path.{_≡_, refl, sym, ap, _∙_}
-use mathlib.Core.Bool.{Bool, true, false, cond}
+use mathlib.Core.Bool.{true, false}
 use mathlib.Core.List.{List, [], _∷_, _++_, map}
-use Prim.Native.Nat.{ℕ, _≤_}
-use native.Mathlib.Omega.{arith}
-use lib.Dec.{T, ltb, eqb}
-use lib.ListN.{length, take, drop, replicate}
-use borrow.Author.Tests.{le-ltb, eq-eqb}
-use Rattle.words.specs.Bytes.{Bytes, padded}
-use Rattle.words.proofs.Truth.{no}
+use Prim.Native.Nat.{ℕ}
+use lib.Dec.{T}
+use lib.ListN.{length, drop, replicate}
+use Rattle.words.specs.Bytes.{Bytes}
 use Rattle.net.specs.Net.{State, Rules}
-use Rattle.net.specs.Image.{memorySize, endIn}
 use Rattle.format.specs.Format.{wellFormed}
-use Rattle.format.specs.Verdict.{isAccepted, verdictOf}
-use Rattle.format.specs.declared.Verdict.the-variants.{Accepted}
 use Rattle.policy.specs.Adding.{Adds}
 use Rattle.stepping.specs.Step.{step, answers, final, numberOf, isGranted}
 use Rattle.stepping.specs.declared.Answer.{Answer}
 use Rattle.stepping.specs.declared.Answer.the-variants.{Granted, Denied}
 use Rattle.stepping.proofs.StepLaws.{not-granted-leaves}
 use Rattle.stepping.proofs.Keeps.{step-keeps, run-keeps}
-use Rattle.monitor.specs.Memory.{loadAnswer, loadMemory, imageIn, holdsNet, rulesHeld, stateHeld, memoryWith, saveAnswer, saveOutput, stepAnswer, stepMemory, runAnswer, runMemory, runAnswers}
-use Rattle.monitor.specs.declared.Saved.the-variants.{Whole}
+use Rattle.monitor.specs.Memory.{holdsNet, rulesHeld, stateHeld, memoryWith, stepAnswer, stepMemory, runAnswer, runMemory, runAnswers}
 use Rattle.monitor.specs.declared.Ran.the-variants.{Through}
-use Rattle.monitor.proofs.Holding.{holds-parts, image-padded, padded-holds, held-formed, held-memory, memory-holds, rules-back, state-back}
-use Rattle.promises.specs.Runs.{keep, granted, Follows, stepped, stepAnswers, grantedSteps}
+use Rattle.monitor.proofs.Holding.{held-formed, held-memory, memory-holds, rules-back, state-back}
+use Rattle.promises.specs.Runs.{keep, granted, stepped, stepAnswers, grantedSteps}
 use Rattle.promises.proofs.More.{more-deny, more-follow}
 
 -- ---- the memory of a well-formed net, stepped

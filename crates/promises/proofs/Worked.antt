@@ -4,7 +4,7 @@ use mathlib.Core.Bool.{Bool, cond}
 use mathlib.Core.List.{List, [], _∷_}
 use Prim.Native.Nat.{ℕ}
 use lib.Dec.{T, eqb}
-use Rattle.words.specs.Lists.{all, fitAll}
+use Rattle.words.specs.Lists.{all}
 use Rattle.level.specs.Level.{dominates}
 use Rattle.belnap.specs.Belnap.{notOf, andOf, orOf, consensusOf, gatherOf, impliesOf, beforeOf, grants}
 use Rattle.net.specs.declared.Operand.{Operand}

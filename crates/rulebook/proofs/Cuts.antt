@@ -13,7 +13,7 @@ use borrow.Author.Tests.{eqb-true, eq-eqb, ne-eqb, le-leb, leb-true, not-true}
 use Rattle.words.specs.Lists.{every, allOf, all, some, count}
 use Rattle.words.proofs.Truth.{no, both-T, T-both, is-T, T-is, both-left, both-right, same-truth}
 use Rattle.words.proofs.First.{every-at, every-of}
-use Rattle.words.proofs.Lists.{count-append, all-weaken}
+use Rattle.words.proofs.Lists.{count-append, all-append, all-weaken}
 use Rattle.words.proofs.Numbers.{written}
 use Rattle.net.specs.Records.{noOperand}
 use Rattle.net.specs.Net.{cutOf}
@@ -91,7 +91,7 @@ module _ (tag : ℕ) where
 
 -- ---- of operands that are good or not used
 module _ (tag : ℕ) (low : 0 < tag) where
-  good-ranged : (tags : List ℕ) (x : Operand) → tag ≤ 2 → T (operandOk tags x) → T (ranged tag x)
+  pub good-ranged : (tags : List ℕ) (x : Operand) → tag ≤ 2 → T (operandOk tags x) → T (ranged tag x)
   good-ranged tags x h t = pick (eqb (x .tag) tag) refl
     where
       pick : (b : Bool) → eqb (x .tag) tag ≡ b → T (not b || ltb (x .value) 8)
@@ -115,17 +115,16 @@ module _ (tag : ℕ) (low : 0 < tag) where
   unused-count v (x ∷ l) t =
       let q = both-T (unused x) (all unused l) t in rw (unused-silent v x (q .0)) (omega (arith, unused-count v l (q .1)))
 
-all-append : {A : Type 0} (p : A → Bool) (a b : List A) → T (all p a) → T (all p b) → T (all p (a ++ b))
-all-append p [] b s t = t
-all-append p (x ∷ a) b s t = let q = both-T (p x) (all p a) s in T-both (p x) (all p (a ++ b)) (q .0) (all-append p a b (q .1) t)
+T-append : {A : Type 0} (p : A → Bool) (a b : List A) → T (all p a) → T (all p b) → T (all p (a ++ b))
+T-append p a b s t = rw (all-append p a b) (T-both (all p a) (all p b) s t)
 
 -- no variable twice: of the first n of some operands, which are used, and of some before them, it is enough to look at them all
 module _ (tag : ℕ) (low : 0 < tag) (high : tag ≤ 2) (tags : List ℕ) (front : List Operand) (n : ℕ) (l : List Operand) where
-  every-field : T (operandsOk tags n l) → T (all (ranged tag) l)
+  pub every-field : T (operandsOk tags n l) → T (all (ranged tag) l)
   every-field t =
       let q = both-T (all (operandOk tags) (take n l)) (all unused (drop n l)) t in
       rw (take-append-drop n l) at
-      (all-append (ranged tag) (take n l) (drop n l)
+      (T-append (ranged tag) (take n l) (drop n l)
       (all-weaken (operandOk tags) (ranged tag) (λ x. good-ranged tag low tags x high) (take n l) (q .0))
       (all-weaken unused (ranged tag) (unused-ranged tag low) (drop n l) (q .1)))
 
@@ -141,7 +140,7 @@ module _ (tag : ℕ) (low : 0 < tag) (high : tag ≤ 2) (tags : List ℕ) (front
   no-variable-twice f t =
       same-truth (onceEach tag (front ++ l)) _
       (λ o. every-of (λ v. leb (count (speaks tag v) (front ++ take n l)) 1) 8 (λ v h. le-leb (count (speaks tag v) (front ++ take n l)) 1 (omega (arith, once-count tag v (front ++ l) o, same-count v t))))
-      (λ o. count-once tag (front ++ l) (all-append (ranged tag) front l f (every-field t))
+      (λ o. count-once tag (front ++ l) (T-append (ranged tag) front l f (every-field t))
       (λ v h. omega (arith, same-count v t, leb-true (count (speaks tag v) (front ++ take n l)) 1 (every-at (λ v. leb (count (speaks tag v) (front ++ take n l)) 1) 8 o v h))))
 
 -- the cut of an aspect whose operands are good

@@ -3,7 +3,7 @@
 use mathlib.Core.Path.{_≡_, refl, sym, ap, _∙_}
 use mathlib.Core.Bool.{Bool, true, false, cond, _||_}
 use mathlib.Core.List.{List, [], _∷_, _++_, map}
-use Prim.Native.Nat.{ℕ, _+_, _*_, _≤_, _<_}
+use Prim.Native.Nat.{ℕ, _+_, _≤_}
 use native.Mathlib.Omega.{arith}
 use lib.Dec.{T, ltb}
 use lib.ListN.{length, getD, take, drop, length-append, length-drop, List·getD-append}
@@ -13,7 +13,7 @@ use Rattle.words.specs.Bytes.{Bytes, padded}
 use Rattle.words.proofs.Splices.{splice-zero}
 use Rattle.words.proofs.Truth.{no}
 use Rattle.net.specs.Net.{State, Rules}
-use Rattle.net.specs.Image.{memorySize, widthOf, mostOf, endIn, bodyIn, stateIn, rulesIn}
+use Rattle.net.specs.Image.{memorySize, widthOf, mostOf, endIn, bodyIn}
 use Rattle.net.proofs.Bodies.{entry-of, body-length}
 use Rattle.format.specs.Format.{wellFormed}
 use Rattle.format.specs.Verdict.{numberOf as verdictNumber, recordOf, verdictOf, handedOut, bodyOf}

@@ -1,8 +1,8 @@
 -- What a turn of each loop adds: one row counted, one line put; and how long the lines are at most. Assumes nothing.
-use mathlib.Core.Path.{_≡_, refl, sym, ap, _∙_}
-use mathlib.Core.Bool.{Bool, true, false, cond}
-use mathlib.Core.List.{List, [], _∷_, _++_}
-use Prim.Native.Nat.{ℕ, zero, suc, _+_, _-_, _*_, _/_, _≤_, _<_}
+use mathlib.Core.Path.{_≡_, refl}
+use mathlib.Core.Bool.{true, cond}
+use mathlib.Core.List.{List, [], _∷_}
+use Prim.Native.Nat.{ℕ, _+_, _-_, _*_, _/_, _≤_, _<_}
 use native.Mathlib.Nat.{add-zero, sub-zero}
 use native.Mathlib.Numerals.{add-one}
 use native.Mathlib.Omega.{arith}
@@ -14,11 +14,11 @@ use Rattle.words.specs.Bytes.{u32At}
 use Rattle.words.proofs.Truth.{both-left, both-right}
 use Rattle.words.proofs.Lists.{count-append}
 use Rattle.words.proofs.Tables.{table-length, table-at}
-use Rattle.net.specs.Records.{rowWidth, noRow, readRow, siteWidth, noSite, readSite}
+use Rattle.net.specs.Records.{rowWidth, noRow, readRow}
 use Rattle.net.specs.Net.{siteAt, held}
 use Rattle.net.specs.Image.{sitesIn, rowsIn}
 use Rattle.net.specs.declared.Site.{Site}
-use Rattle.lines.specs.Lines.{decimal, spaced, line, lines, Put}
+use Rattle.lines.specs.Lines.{spaced, line, lines, Put}
 use Rattle.lines.proofs.Texts.{decimal-length, line-length, lines-more, lines-length, put-then}
 use Rattle.stepper.specs.Farmstep.{inputLine, stepLine, siteLine, loadedText, inputOk, printed}
 

@@ -1,17 +1,15 @@
 // The work of the stepping program: an image is loaded, steps are run on it, and what came of it is put into lent bytes as lines of text.
 ghost use mathlib.Core.Path.{_≡_};
 ghost use mathlib.Core.Bool.{true};
-ghost use mathlib.Core.List.{_++_};
 ghost use Prim.Native.Nat.{_+_, _*_, _/_, _≤_, _<_};
 ghost use lib.ListN.{length};
 ghost use Rattle.io.specs.Counts.{Counts};
 ghost use Rattle.net.specs.Net.{held};
-ghost use Rattle.net.specs.Image.{sitesIn, rowsIn};
+ghost use Rattle.net.specs.Image.{rowsIn};
 ghost use Rattle.monitor.specs.Memory.{holdsNet, rulesHeld, stateHeld};
 ghost use Rattle.lines.specs.Lines.{Put};
 ghost use Rattle.stepper.specs.Farmstep.{inputOk, stepLine, siteLine, stepLines, siteLines, ranText, loadedText, printed};
 ghost use Rattle.stepper.specs.Bodies.{siteLinesOf};
-use format::Verdict;
 use monitor::Ran;
 use monitor::Saved;
 use net::Site;

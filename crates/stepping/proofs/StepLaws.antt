@@ -14,7 +14,7 @@ use Rattle.belnap.specs.Belnap.{grants}
 use Rattle.net.specs.Net.{State, Rules, siteAt, rowAt, program, names, placeOf}
 use Rattle.net.specs.declared.Row.{Row}
 use Rattle.policy.specs.House.{Act, judge}
-use Rattle.stepping.specs.Step.{stop, go, next, doing, going, start, hits, oldest, chosen, Plan, refuse, put, get, getting, allowed, judged, planned, asking, done, step, isGranted}
+use Rattle.stepping.specs.Step.{stop, go, next, doing, going, start, hits, oldest, chosen, Plan, refuse, put, get, getting, judged, planned, asking, done, step, isGranted}
 use Rattle.stepping.specs.declared.Answer.{Answer}
 use Rattle.stepping.specs.declared.Answer.the-variants.{Granted, Done, Denied, NoMatch, NoPlace, NoSite}
 

@@ -1,13 +1,13 @@
 -- One step, and a run of steps. Assumes nothing.
 use Prim.Native.Nat.{ℕ, zero, suc}
-use mathlib.Core.Bool.{Bool, true, false, cond, not, _&&_, _||_}
+use mathlib.Core.Bool.{Bool, true, false, cond, _&&_}
 use mathlib.Core.List.{List, [], _∷_, map}
 use lib.Dec.{ltb, leb, eqb}
-use lib.ListN.{length, getD, take, set}
+use lib.ListN.{length, getD, set}
 use Rattle.level.specs.Level.{join}
 use Rattle.belnap.specs.Belnap.{grants}
-use Rattle.words.specs.Lists.{firstBad, first, fitAll, insertAt, removeAt}
-use Rattle.net.specs.Net.{State, Rules, storeLimit, siteAt, actionAt, rowAt, program, held, names, placeOf, isBinding, isVariable, fieldsOf, valuesOf}
+use Rattle.words.specs.Lists.{firstBad, first, insertAt, removeAt}
+use Rattle.net.specs.Net.{State, Rules, storeLimit, siteAt, actionAt, rowAt, program, held, names, placeOf, isVariable, fieldsOf, valuesOf}
 use Rattle.policy.specs.Match.{fits, bound}
 use Rattle.policy.specs.House.{Act, name, judge}
 use Rattle.net.specs.declared.Operand.{Operand}

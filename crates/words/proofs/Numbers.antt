@@ -1,12 +1,12 @@
 -- Numbers written as bytes are read back, and bytes read are written back; a list of known length is what is written out of it. Assumes nothing.
-use mathlib.Core.Path.{_≡_, refl, sym, ap, _∙_}
-use mathlib.Core.List.{List, [], _∷_, _++_}
+use mathlib.Core.Path.{_≡_, refl, ap, _∙_}
+use mathlib.Core.List.{List, [], _∷_}
 use Prim.Native.Nat.{ℕ, zero, suc, _+_, _*_, _/_, _%_, _≤_, _<_}
 use native.Mathlib.Nat.{add-assoc, le-of-suc-le-suc, not-suc-le-zero}
 use native.Mathlib.Omega.{arith}
 use lib.ListN.{length, getD, take, drop, List·getD-eq-default}
 use lib.Seq.{getD-drop, take-all}
-use Rattle.words.specs.Bytes.{u16At, u32At, low, high, Bytes}
+use Rattle.words.specs.Bytes.{u16At, Bytes}
 
 pub u16At-drop : (n : ℕ) (m : List ℕ) (k : ℕ) → u16At (drop n m) k ≡ u16At m (n + k)
 unfolding u16At

@@ -3,11 +3,11 @@ use mathlib.Core.Path.{_≡_, refl, sym, ap, _∙_}
 use mathlib.Core.Bool.{Bool, true, false, _&&_, and-true, and-false}
 use mathlib.Core.List.{List, [], _∷_, _++_, append-assoc, append-nil}
 use Prim.Native.Nat.{ℕ, zero, suc, _+_, _-_, _*_, _≤_, _<_}
-use native.Mathlib.Nat.{add-assoc, zero-add, add-zero}
+use native.Mathlib.Nat.{zero-add, add-zero}
 use native.Mathlib.Numerals.{add-one}
 use native.Mathlib.Omega.{arith}
 use lib.ListN.{length, getD, set, take, drop, replicate, length-append, length-drop, length-replicate, take-append-drop, List·getD-append}
-use lib.Seq.{take-suc, drop-cons, append-snoc, set-at, take-at, drop-at, take-take, take-append-le, drop-append-le, drop-append-add, drop-drop, getD-append-add, getD-drop, getD-take, length-take-le, paste, paste-suc, length-paste-head, take-length, drop-length}
+use lib.Seq.{take-suc, drop-cons, append-snoc, set-at, take-at, drop-at, take-take, take-append-le, drop-drop, getD-append-add, getD-drop, getD-take, length-take-le, paste, paste-suc, length-paste-head, take-length, drop-length}
 use lib.Dec.{eqb}
 use lib.Bits.{bitOr, or-add-and, and-le-r}
 use borrow.Author.Tests.{ne-eqb}

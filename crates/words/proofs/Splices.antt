@@ -1,10 +1,10 @@
 -- Stretches replaced, put in and taken out between a front and a rest: the front's length finds the seam. Assumes nothing.
-use mathlib.Core.Path.{_≡_, refl, sym, ap, _∙_}
-use mathlib.Core.List.{List, [], _∷_, _++_, append-assoc}
-use Prim.Native.Nat.{ℕ, zero, suc, _+_, _-_, _≤_, _<_}
+use mathlib.Core.Path.{_≡_}
+use mathlib.Core.List.{List, _++_, append-assoc}
+use Prim.Native.Nat.{ℕ, zero, suc, _+_, _-_, _≤_}
 use native.Mathlib.Nat.{add-assoc, zero-add, suc-sub-suc, sub-zero, zero-sub}
 use native.Mathlib.Omega.{arith}
-use lib.ListN.{length, take, drop, replicate, length-append, length-take, length-drop}
+use lib.ListN.{length, drop, replicate, length-append, length-drop}
 use lib.Seq.{take-append-add, take-append-seam, drop-append-seam, drop-append-add, drop-at, length-take-le}
 use Rattle.words.specs.Bytes.{splice, inserted, removed, blank}
 

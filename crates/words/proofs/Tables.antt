@@ -4,16 +4,20 @@ use mathlib.Core.Path.{_≡_, refl, sym, ap, _∙_}
 use mathlib.Core.Bool.{Bool}
 use mathlib.Core.List.{List, [], _∷_, _++_, append-assoc, append-nil}
 use Prim.Native.Nat.{ℕ, zero, suc, _+_, _*_, _-_, _/_, _≤_, _<_, suc-le-suc, zero-le}
-use native.Mathlib.Nat.{add-assoc, add-comm, add-zero, zero-add, mul-add, mul-suc, mul-zero, mul-div-cancel-left, le-of-suc-le-suc, not-suc-le-zero}
+use native.Mathlib.Nat.{add-assoc, add-comm, add-zero, zero-add, mul-add, mul-suc, mul-le-mul-left, mul-zero, mul-div-cancel-left, le-of-suc-le-suc, not-suc-le-zero}
 use native.Mathlib.Omega.{arith}
 use lib.Dec.{T}
-use lib.ListN.{length, getD, set, take, drop, length-append, length-drop, take-append-drop}
-use lib.Seq.{take-add, take-all, drop-drop, drop-append-add, drop-at, getD-drop}
+use lib.ListN.{length, getD, set, take, drop, length-append, length-drop}
+use lib.Seq.{take-add, take-all, drop-append-add, getD-drop}
 use Rattle.words.specs.Bytes.{splice, inserted, removed, blank, Bytes}
 use Rattle.words.specs.Lists.{all}
 use Rattle.words.specs.Tables.{build, tableOf, encodeAll}
 use Rattle.words.proofs.Lists.{all-at}
 use Rattle.words.proofs.Splices.{splice-past, splice-front, inserted-seam, removed-seam}
+
+-- record k of n lies within
+pub inside : (w n k size : ℕ) → k < n → w * n ≤ size → 0 < w → w * k < size
+inside w n k size h l p = omega (arith, mul-suc w k, mul-le-mul-left w h)
 
 -- ---- the list of a rule's values
 module _ {A : Type 0} where

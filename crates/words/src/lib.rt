@@ -2,10 +2,12 @@
 // whose records stand in the order of their first byte. Readers ask for their place and test nothing; what a function leaves of lent
 // bytes is one list in its contract.
 ghost use mathlib.Core.Path.{_≡_};
+ghost use mathlib.Core.Bool.{_&&_};
 ghost use Prim.Native.Nat.{ℕ, _+_, _-_, _*_, _/_, _^_, _≤_, _<_};
-ghost use lib.ListN.{length, getD};
+ghost use lib.Dec.{ltb};
+ghost use lib.ListN.{length, getD, drop};
 ghost use Rattle.words.specs.Bytes.{u16At, u32At, u16Bytes, blank, allZero, padded, splice, raised, lowered, inserted, removed};
-ghost use Rattle.words.specs.Tables.{Ordered, countBelow, startsOf, startsMore, startsLess};
+ghost use Rattle.words.specs.Tables.{countBelow, startsOf, startsMore, startsLess};
 
 // What a search answers: the number that it found, or nothing.
 pub enum Found {
@@ -94,6 +96,19 @@ pub fn zeros(s: &[u8]) -> bool
     seen == 0
 }
 
+// Whether every byte from byte `at` on is 0. The long part begins at a multiple of 64, so that none of its loads lies across two lines of
+// the processor's cache where the slice begins at one.
+pub fn zeros_from(s: &[u8], at: usize) -> bool
+    requires { ⌜ (at ≤ length (now s)) × (at < 2 ^ 63) ⌝ }
+    ensures { λ r. ⌜ r ≡ allZero (drop at (now (s .entry))) ⌝ }
+{
+    let line = (at + 63) / 64 * 64;
+    if s.len() < line {
+        return zeros(&s[at..]);
+    }
+    zeros(&s[at..line]) & zeros(&s[line..])
+}
+
 // The bytes b, then zeros to the end.
 pub fn fill(mem: &mut [u8], b: &[u8])
     requires { ⌜ length (now b) ≤ length (now mem) ⌝ }
@@ -167,17 +182,30 @@ pub fn count_below(s: &[u8], w: usize, n: usize, bound: usize) -> usize
     low
 }
 
-// Where the records of each owner from 0 to 32 start.
+// Whether record k of the first n is there and its owner is below t.
+fn is_before(s: &[u8], w: usize, n: usize, k: usize, t: usize) -> bool
+    requires { ⌜ (w * n ≤ length (now s)) × (0 < w) ⌝ }
+    ensures { λ r. ⌜ r ≡ (ltb k n && ltb (getD (now (s .entry)) (w * k) 0) t) ⌝ }
+{
+    k < n && (s[w * k] as usize) < t
+}
+
+// Where the records of each owner from 0 to 32 start, found in one walk over the records and the owners.
 pub fn starts(s: &[u8], w: usize) -> [u16; 33]
-    requires { ⌜ (1 < w) × Ordered w (now s) × (length (now s) / w < 65536) ⌝ }
+    requires { ⌜ (0 < w) × (length (now s) / w < 65536) ⌝ }
     ensures { λ r. ⌜ r ≡ startsOf w (now (s .entry)) ⌝ }
 {
     let n = s.len() / w;
     let mut starts = [0; 33];
+    let mut k = 0;
     let mut t = 0;
     while t < 33 {
-        starts[t] = count_below(s, w, n, t) as u16;
-        t += 1;
+        if is_before(s, w, n, k, t) {
+            k += 1;
+        } else {
+            starts[t] = k as u16;
+            t += 1;
+        }
     }
     starts
 }

@@ -1,13 +1,11 @@
 -- `capi::boardmarten_body` meets its contract: no such kind, an empty part, or a part whose place the directory gives. Assumes nothing.
-use mathlib.Core.Path.{_≡_, refl, sym, ap, _∙_}
+use mathlib.Core.Path.{_≡_, sym, ap, _∙_}
 use mathlib.Core.List.{List}
 use Prim.Native.Nat.{ℕ}
 use native.Mathlib.Omega.{arith}
 use denote.Ref.{now}
-use borrow.Author.Tests.{ne-eqb, eq-eqb}
 use lib.ListN.{length}
 use Rattle.format.specs.Verdict.{bodyOf}
-use Rattle.capi.specs.Packed.{packedBody}
 use Rattle.capi.proofs.Parts.{Part, part-of, packed-none, packed-no-kind, packed-part}
 use borrow.Author.Needs.{needs}
 use Rattle.capi.proofs.boardmarten_body.Statement.{statement}

@@ -1,5 +1,5 @@
 -- `capi::boardmarten_check` meets its contract: the verdict of the check, packed. Assumes nothing.
-use mathlib.Core.Path.{_≡_, refl, sym, ap, _∙_}
+use mathlib.Core.Path.{ap, _∙_}
 use Rattle.capi.specs.Packed.{packedVerdict}
 use borrow.Author.Needs.{needs}
 use Rattle.capi.proofs.boardmarten_check.Statement.{statement}

@@ -1,5 +1,5 @@
 -- `capi::boardmarten_load` meets its contract: the verdict of the load, packed, and the memory that it leaves. Assumes nothing.
-use mathlib.Core.Path.{_≡_, refl, sym, ap, _∙_}
+use mathlib.Core.Path.{ap, _∙_}
 use Rattle.capi.specs.Packed.{packedVerdict}
 use borrow.Author.Needs.{needs}
 use Rattle.capi.proofs.boardmarten_load.Statement.{statement}

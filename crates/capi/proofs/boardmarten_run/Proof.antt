@@ -1,5 +1,5 @@
 -- `capi::boardmarten_run` meets its contract: the number of the answer, and the bytes that the run leaves. Assumes nothing.
-use mathlib.Core.Path.{_≡_, refl, sym, ap, _∙_}
+use mathlib.Core.Path.{ap, _∙_}
 use Rattle.monitor.specs.Memory.{ranNumber}
 use borrow.Author.Needs.{needs}
 use Rattle.capi.proofs.boardmarten_run.Statement.{statement}

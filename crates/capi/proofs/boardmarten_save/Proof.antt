@@ -1,5 +1,5 @@
 -- `capi::boardmarten_save` meets its contract: the number and the length, packed, and the output that the save leaves. Assumes nothing.
-use mathlib.Core.Path.{_≡_, refl, sym, ap, _∙_}
+use mathlib.Core.Path.{ap, _∙_}
 use Rattle.capi.specs.Packed.{packedSaved}
 use Rattle.capi.proofs.Parts.{saved-small}
 use borrow.Author.Needs.{needs}

@@ -1,5 +1,5 @@
 -- `capi::boardmarten_step` meets its contract: the number of the answer, and the memory that the step leaves. Assumes nothing.
-use mathlib.Core.Path.{_≡_, refl, sym, ap, _∙_}
+use mathlib.Core.Path.{ap, _∙_}
 use Rattle.stepping.specs.Step.{numberOf}
 use borrow.Author.Needs.{needs}
 use Rattle.capi.proofs.boardmarten_step.Statement.{statement}

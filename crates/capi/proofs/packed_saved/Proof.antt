@@ -1,10 +1,7 @@
 -- `capi::packed_saved` meets its contract: by what saving answers. Assumes nothing.
-use mathlib.Core.Path.{_≡_, refl, sym, ap, _∙_}
-use Prim.Native.Nat.{_+_, _*_}
+use mathlib.Core.Path.{sym, ap}
 use native.Mathlib.Omega.{arith}
 use Rattle.monitor.specs.Memory.{savedLength}
-use Rattle.monitor.specs.declared.Saved.{Saved}
-use Rattle.monitor.specs.declared.Saved.the-variants.{Whole}
 use Rattle.capi.specs.Packed.{packedSaved}
 use borrow.Author.Needs.{needs}
 use Rattle.capi.proofs.packed_saved.Statement.{statement}

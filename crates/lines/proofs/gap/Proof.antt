@@ -1,5 +1,4 @@
 -- `lines::gap` meets its contract: a space, then the number. Assumes nothing.
-use Prim.Native.Nat.{_≤_}
 use native.Mathlib.Omega.{arith}
 use mathlib.Core.List.{append-nil}
 use borrow.Author.Needs.{needs}

@@ -1,6 +1,4 @@
 -- `lines::line` meets its contract: the word, then the numbers, then the end. Assumes nothing.
-use Prim.Native.Nat.{_≤_}
-use mathlib.Core.List.{append-assoc}
 use native.Mathlib.Omega.{arith}
 use borrow.Author.Needs.{needs}
 use Rattle.lines.specs.Lines.{line}

@@ -1,6 +1,5 @@
 -- `lines::number` meets its contract: the fewest digits that hold a number are its decimal. Assumes nothing.
-use mathlib.Core.Path.{_≡_, sym, _∙_}
-use Prim.Native.Nat.{_≤_}
+use mathlib.Core.Path.{_∙_}
 use native.Mathlib.Omega.{arith}
 use borrow.Author.Needs.{needs}
 use Rattle.lines.proofs.Texts.{twenty, decimal-is}

@@ -1,14 +1,14 @@
 -- `monitor::run` meets its contract. The invariant: memory is that of the net after the steps so far, and their answers stand at the front of the
 -- answers; the net stays well formed, so memory holds it at each step. Assumes nothing.
 use denote.Ref.{now}
-use mathlib.Core.Path.{_≡_, refl, sym, ap, _∙_}
-use mathlib.Core.Bool.{true, false}
+use mathlib.Core.Path.{_≡_, refl, ap, _∙_}
+use mathlib.Core.Bool.{true}
 use mathlib.Core.List.{List, _++_}
-use Prim.Native.Nat.{ℕ, _+_, _-_, _≤_, _<_}
+use Prim.Native.Nat.{ℕ, _+_, _-_, _≤_}
 use native.Mathlib.Omega.{arith}
 use borrow.Author.Needs.{needs}
 use lib.Dec.{T}
-use lib.ListN.{length, getD, drop, length-set, set}
+use lib.ListN.{length, drop, length-set, set}
 use Rattle.words.specs.Bytes.{Bytes}
 use Rattle.words.proofs.Truth.{fails, holds}
 use Rattle.format.specs.Format.{wellFormed}

@@ -1,4 +1,4 @@
--- `monitor::starts_of` meets its contract: the rows of a net that memory holds are in order, and few. Assumes nothing.
+-- `monitor::starts_of` meets its contract: the rows of a net that memory holds are few. Assumes nothing.
 use denote.Ref.{now}
 use mathlib.Core.Path.{_≡_, ap, _∙_}
 use native.Mathlib.Omega.{arith}
@@ -7,7 +7,6 @@ use Rattle.net.specs.Records.{rowWidth}
 use Rattle.net.specs.Image.{bodyIn}
 use Rattle.format.specs.Verdict.{verdictOf}
 use Rattle.format.specs.declared.Verdict.the-variants.{Accepted}
-use Rattle.format.proofs.Ordered.{accepted-rows}
 use Rattle.monitor.specs.Memory.{imageIn}
 use Rattle.monitor.proofs.Holding.{holds-parts}
 use Rattle.monitor.proofs.Asking.{contents-of}
@@ -31,8 +30,7 @@ starts-requires : tie.Need-starts-requires
 starts-requires c κs =
     let s = c .before .before .before in
     let b = imageIn (now (s .args .memory)) in
-    let a = accepted s in
-    (omega arith, rw (part-is c) (accepted-rows b a), rw (part-is c) (omega (arith, few-rows b (contents-of b a))))
+    (omega arith, rw (part-is c) (omega (arith, few-rows b (contents-of b (accepted s)))))
 
 returns : tie.Need-returns
 returns c = c .starts .ensures ∙ ap (startsOf rowWidth) (part-is (c .before))

@@ -1,6 +1,6 @@
 -- `stepper::net_lines` meets its contract: saving gives the image of the net, and its bodies the sites and rows. Assumes nothing.
 use denote.Ref.{now}
-use mathlib.Core.Path.{_≡_, refl, sym, ap, _∙_}
+use mathlib.Core.Path.{_≡_, sym, ap, _∙_}
 use mathlib.Core.Bool.{true}
 use mathlib.Core.List.{List}
 use mathlib.Core.Logic.{⊎-elim}
@@ -9,7 +9,6 @@ use native.Mathlib.Omega.{arith}
 use lib.ListN.{length, take}
 use lib.Seq.{length-take-le}
 use borrow.Author.Needs.{needs}
-use Rattle.words.proofs.Truth.{no}
 use Rattle.net.specs.Image.{endIn}
 use Rattle.format.specs.Verdict.{bodyOf}
 use Rattle.monitor.specs.Memory.{imageIn, holdsNet}

@@ -1,9 +1,9 @@
 -- `stepper::site_lines` meets its contract. The invariant: the lines of the first k sites are put. Assumes nothing.
 use mathlib.Core.Path.{_≡_, refl, sym, _∙_}
-use mathlib.Core.List.{List, []}
-use Prim.Native.Nat.{ℕ, _+_, _-_, _*_, _/_, _≤_, _<_}
+use mathlib.Core.List.{List}
+use Prim.Native.Nat.{ℕ, _-_, _≤_}
 use native.Mathlib.Omega.{arith}
-use lib.ListN.{length, getD}
+use lib.ListN.{length}
 use borrow.Author.Needs.{needs}
 use Rattle.words.proofs.Tables.{table-length, table-at}
 use Rattle.net.specs.Records.{siteWidth, noSite, readSite}

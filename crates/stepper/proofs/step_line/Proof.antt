@@ -1,5 +1,4 @@
 -- `stepper::step_line` meets its contract: the index, then the line of the two numbers. Assumes nothing.
-use Prim.Native.Nat.{_≤_}
 use native.Mathlib.Omega.{arith}
 use borrow.Author.Needs.{needs}
 use Rattle.lines.proofs.Texts.{decimal-length, put-then}

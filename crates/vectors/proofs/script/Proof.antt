@@ -1,5 +1,4 @@
 -- `vectors::script` is safe and ends: each operation takes at least its number, and no more than there is. Assumes nothing.
-use mathlib.Core.Path.{_≡_, refl}
 use Prim.Native.Nat.{_-_, _≤_}
 use native.Mathlib.Omega.{arith}
 use lib.ListN.{length}

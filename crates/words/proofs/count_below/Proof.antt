@@ -1,17 +1,16 @@
 -- `words::count_below` meets its contract. The invariant: every record below `low` begins below the bound, and the one at `high` does not; the
 -- order of the records carries this over to a whole half. Assumes nothing.
 use denote.Ref.{now}
-use mathlib.Core.Path.{_≡_, sym, ap, _∙_}
-use mathlib.Core.Bool.{true, false}
-use mathlib.Core.List.{List}
-use Prim.Native.Nat.{ℕ, suc, _+_, _-_, _*_, _/_, _≤_, _<_}
-use native.Mathlib.Nat.{mul-suc, mul-le-mul-left, mul-le-mul-right}
+use mathlib.Core.Path.{_≡_, sym}
+use Prim.Native.Nat.{ℕ, _+_, _-_, _*_, _/_, _≤_, _<_}
+use native.Mathlib.Nat.{mul-le-mul-right}
 use native.Mathlib.Omega.{arith}
 use borrow.Author.Needs.{needs}
 use borrow.Author.Tests.{lt-ltb, le-ltb}
 use lib.Dec.{ltb}
 use lib.ListN.{length, getD}
 use Rattle.words.proofs.First.{first-is}
+use Rattle.words.proofs.Tables.{inside}
 use Rattle.words.proofs.count_below.Statement.{statement}
 use Rattle.words.proofs.count_below.Tie as tie
 
@@ -21,10 +20,6 @@ Inv-loop s w n bound low₀ high₀ low high =
 
 abbrev μ-loop : tie.MeasureT-loop
 μ-loop s w n bound low₀ high₀ low high = high - low
-
--- record k lies within
-inside : (w n k size : ℕ) → k < n → w * n ≤ size → 1 < w → w * k < size
-inside w n k size h l p = omega (arith, mul-suc w k, mul-le-mul-left w h)
 
 loop-holds : tie.Need-loop-holds Inv-loop μ-loop
 loop-holds c = (search needs, search needs, λ k h. omega arith, λ h. omega arith)
@@ -39,12 +34,12 @@ middle low high = (low + high) / 2
 mul-if1 : tie.Need-mul-if1 Inv-loop μ-loop
 mul-if1 c =
     let s = c .before .before in
-    omega (arith, inside (s .args .w) (s .args .n) (middle (c .before .loop .low) (c .before .loop .high)) (length (now (s .args .s))) (omega arith) (s .pre .0) (s .pre .1))
+    omega (arith, inside (s .args .w) (s .args .n) (middle (c .before .loop .low) (c .before .loop .high)) (length (now (s .args .s))) (omega arith) (s .pre .0) (omega arith))
 
 shared-slice-read-if1 : tie.Need-shared-slice-read-if1 Inv-loop μ-loop
 shared-slice-read-if1 c =
     let s = c .before .before .before in
-    inside (s .args .w) (s .args .n) (middle (c .before .before .loop .low) (c .before .before .loop .high)) (length (now (s .args .s))) (omega arith) (s .pre .0) (s .pre .1)
+    inside (s .args .w) (s .args .n) (middle (c .before .before .loop .low) (c .before .before .loop .high)) (length (now (s .args .s))) (omega arith) (s .pre .0) (omega arith)
 
 loop-again : tie.Need-loop-again Inv-loop μ-loop
 loop-again c =

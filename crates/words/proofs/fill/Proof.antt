@@ -1,7 +1,4 @@
 -- `words::fill` meets its contract: a copy at the front and zeros after it make the whole. Assumes nothing.
-use lib.ListN.{length}
-use mathlib.Core.Path.{_≡_}
-use native.Mathlib.Omega.{arith}
 use denote.Ref.{now}
 use borrow.Author.Needs.{needs}
 use Rattle.words.proofs.Shifts.{pads}

@@ -1,12 +1,10 @@
 -- `words::shift_down` meets its contract. The invariant: j bytes are moved. Assumes nothing.
-use mathlib.Core.Path.{_≡_, refl, sym, ap, _∙_}
-use mathlib.Core.List.{List}
-use Prim.Native.Nat.{ℕ, _+_, _-_, _≤_}
+use mathlib.Core.Path.{_≡_, refl, _∙_}
+use Prim.Native.Nat.{_+_, _-_, _≤_}
 use native.Mathlib.Omega.{arith}
 use borrow.Author.Needs.{needs}
 use lib.ListN.{length, drop, length-set}
 use lib.Seq.{paste, paste-zero}
-use Rattle.words.specs.Bytes.{lowered}
 use Rattle.words.proofs.Shifts.{down-turn, lowered-done}
 use Rattle.words.proofs.shift_down.Statement.{statement}
 use Rattle.words.proofs.shift_down.Tie as tie

@@ -1,11 +1,8 @@
 -- `words::shift_up` meets its contract. The invariant: the bytes from k to end are moved. Assumes nothing.
-use mathlib.Core.Path.{_≡_, refl, sym, ap, _∙_}
-use mathlib.Core.List.{List}
+use mathlib.Core.Path.{_≡_, refl, ap, _∙_}
 use Prim.Native.Nat.{ℕ, _+_, _-_, _≤_}
 use native.Mathlib.Omega.{arith}
-use borrow.Author.Needs.{needs}
-use lib.ListN.{length, drop, length-set}
-use lib.Seq.{paste, paste-zero}
+use lib.ListN.{length, length-set}
 use Rattle.words.specs.Bytes.{raised}
 use Rattle.words.proofs.Shifts.{up-turn, raised-none}
 use Rattle.words.proofs.shift_up.Statement.{statement}

@@ -1,7 +1,6 @@
 -- `monitor::act::get` meets its contract: the writes make the memory of the net after the take or read. Assumes nothing.
 use denote.Ref.{now}
-use mathlib.Core.Path.{_≡_, ap}
-use Prim.Native.Nat.{_≤_}
+use mathlib.Core.Path.{ap}
 use native.Mathlib.Omega.{arith}
 use borrow.Author.Needs.{needs}
 use borrow.Author.Tests.{eq-eqb, ne-eqb}

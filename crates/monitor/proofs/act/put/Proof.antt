@@ -1,12 +1,10 @@
 -- `monitor::act::put` meets its contract: the writes make the memory of the net after the put. Assumes nothing.
 use denote.Ref.{now}
-use mathlib.Core.Path.{_≡_, ap}
-use Prim.Native.Nat.{_≤_}
+use mathlib.Core.Path.{ap}
 use native.Mathlib.Omega.{arith}
 use borrow.Author.Needs.{needs}
 use lib.ListN.{length}
 use Rattle.words.specs.Bytes.{Bytes}
-use Rattle.net.specs.Image.{netOf}
 use Rattle.monitor.specs.Memory.{stateHeld}
 use Rattle.monitor.proofs.Readiness.{Space, space}
 use Rattle.monitor.proofs.Acting.{place-within, length-sites, put-added, put-dropped}

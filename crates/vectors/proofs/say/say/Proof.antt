@@ -1,5 +1,4 @@
 -- `vectors::say::say` meets its contract: no number takes more than 20 digits and a space. Assumes nothing.
-use Prim.Native.Nat.{_≤_}
 use native.Mathlib.Omega.{arith}
 use borrow.Author.Needs.{needs}
 use Rattle.lines.proofs.Texts.{spaced-length}
