@@ -218,7 +218,7 @@ fn read_put(image: &[u8], i: usize, t: usize) -> Writes
 }
 
 // The image at the front of memory that holds a net.
-pub fn image_of(memory: &[u8]) -> &[u8]
+pub(crate) fn image_of(memory: &[u8]) -> &[u8]
     requires { ⌜ holdsNet (now memory) ≡ true ⌝ }
     ensures { λ r. ⌜ now r ≡ imageIn (now (memory .entry)) ⌝ }
 {
@@ -298,7 +298,7 @@ fn get(memory: &mut [u8], i: usize, t: usize, k: usize, action: Action)
 }
 
 // Does what asking found for site i.
-pub fn act(memory: &mut [u8], i: usize, asked: Asked)
+pub(crate) fn act(memory: &mut [u8], i: usize, asked: Asked)
     requires { ⌜ (holdsNet (now memory) ≡ true) × (isGranted (asked .answer) ≡ true) × (planIn i asked ≡ asking (rulesHeld (now memory)) (stateHeld (now memory)) i) ⌝ }
     ensures { λ _. ⌜ now (memory .exit) ≡ memoryWith (rulesHeld (now (memory .entry))) (step (rulesHeld (now (memory .entry))) (stateHeld (now (memory .entry))) i .after) ⌝ }
 {

@@ -190,7 +190,7 @@ fn next_of(actions: &[u8], i: usize, p: u16) -> Found
 }
 
 // What site i would do, on an accepted image, where the rows of each site start as said.
-pub fn ask(image: &[u8], starts: &[u16; 33], i: usize) -> Asked
+pub(crate) fn ask(image: &[u8], starts: &[u16; 33], i: usize) -> Asked
     requires { ⌜ (verdictOf (now image) ≡ Accepted) × (now starts ≡ startsOf 10 (bodyIn (now image) 5)) ⌝ }
     ensures { λ r. ⌜ planIn i r ≡ asking (rulesIn (now (image .entry))) (stateIn (now (image .entry))) i ⌝ }
 {
