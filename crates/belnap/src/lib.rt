@@ -1,5 +1,7 @@
 // Belnap's four values: 0 no decision, 1 yes, 2 no, 3 conflict. Bit 0 is evidence for, bit 1 evidence against. The six two-place
 // operators are tables of constants; what they mean is said by the bit rules of specs/, and callers see those rules alone.
+#![tactic(auto)]
+
 ghost use Rattle.std.specs.Prelude.{◌≡◌, ◌<◌};
 ghost use Rattle.belnap.specs.Belnap.{grants, not_of, operate_of, settles};
 

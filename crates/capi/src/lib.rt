@@ -1,5 +1,7 @@
 // The public calls, exported to C and Rust; include/boardmarten.h declares them. A slice passes as a pointer and a length. Each contract gives
 // the number returned and every lent byte at exit, as those of the calls behind it do.
+#![tactic(auto)]
+
 ghost use Rattle.std.specs.Prelude.{◌≡◌, ◌≤◌, length};
 ghost use Rattle.format.specs.Verdict.{verdict_of};
 ghost use Rattle.stepping.specs.Step.{number_of};

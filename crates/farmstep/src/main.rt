@@ -1,4 +1,6 @@
 // Reads an image length, an image and steps from standard input until its end, runs the steps, and prints what came of it.
+#![tactic(auto)]
+
 use libc::{STDIN_FILENO, STDOUT_FILENO};
 
 fn main() {

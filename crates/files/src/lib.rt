@@ -1,4 +1,6 @@
 // A file, read whole.
+#![tactic(auto)]
+
 ghost use Rattle.io.specs.Counts.{IsPrefixLen};
 
 // Reads a file into the front of lent bytes, as much as they hold, and answers how many it read: 0 where it cannot be opened.

@@ -1,6 +1,8 @@
 // Which images are accepted: the size, the edition, the contents, each kind of record, then the state of each site; and the bodies of an
 // accepted image, as parts of it. `check` and `body` ask for nothing; the header's numbers and the parts are for those who know an image to
 // be in order.
+#![tactic(auto)]
+
 mod actions;
 mod contents;
 mod owners;
@@ -27,7 +29,7 @@ use stores::first_bad_row;
 use words::word;
 
 // What a check answers. `Small` is load's alone.
-#[derive(Drop)]
+#[derive(Clone, Copy)]
 pub enum Verdict {
     Accepted,
     Size,

@@ -1,4 +1,6 @@
 // Prints what the stepping program prints for each lesson, in order: the inputs in data/ are those of lessons/.
+#![tactic(auto)]
+
 use libc::STDOUT_FILENO;
 
 // Steps through the input in a file.

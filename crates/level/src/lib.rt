@@ -1,9 +1,11 @@
 // Levels. A level is a u16: its rank is the number / 256, its categories are the low 8 bits, one bit each. One level dominates
 // another if its rank is as high and it has every category of the other; the join of two is the least level that dominates both.
+#![tactic(auto)]
+
 ghost use Rattle.std.specs.Prelude.{◌≡◌};
 ghost use Rattle.level.specs.Level.{dominates, join};
 
-#[derive(Drop)]
+#[derive(Clone, Copy)]
 pub struct Level {
     pub code: u16,
 }

@@ -1,5 +1,7 @@
 // Lines of text put into lent bytes, one piece after the other. Each function asks for room, answers the place after what it put, and leaves
 // every other byte as it was.
+#![tactic(auto)]
+
 ghost use Rattle.std.specs.Prelude.{◌+◌, ◌*◌, ◌≤◌, length, [], ◌∷◌};
 ghost use Rattle.lines.specs.Lines.{decimal, Put};
 ghost use Rattle.lines.specs.Lines.{spaced as Lines·spaced, line as Lines·line};

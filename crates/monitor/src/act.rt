@@ -116,7 +116,7 @@ fn site_after(image: &[u8], i: usize, x: Site, t: usize) -> Site
 }
 
 // Where a put's row goes in all rows, and whether the store has room for it.
-#[derive(Drop)]
+#[derive(Clone, Copy)]
 pub struct Store {
     pub place: usize,
     pub room: bool,
@@ -186,7 +186,7 @@ fn changed(y: Site, room: bool, c: u16, hs: u16) -> Site
 }
 
 // What a put will write: the source one action further, then the target, then, if there is room, its row at a place among all rows.
-#[derive(Drop)]
+#[derive(Clone, Copy)]
 pub struct Writes {
     pub source: Site,
     pub target: Site,
@@ -222,7 +222,7 @@ pub(crate) fn image_of(memory: &[u8]) -> &[u8]
 }
 
 // Where the rows begin in memory, and how many they are.
-#[derive(Drop)]
+#[derive(Clone, Copy)]
 pub struct Rows {
     pub base: usize,
     pub count: usize,

@@ -14,7 +14,7 @@ use stepping::Answer;
 use words::Found;
 
 // What asking finds: the answer and, if it is a grant, the action with its target and, for take and read, the number of the row.
-#[derive(Drop)]
+#[derive(Clone, Copy)]
 pub struct Asked {
     pub answer: Answer,
     pub target: usize,

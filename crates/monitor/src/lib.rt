@@ -2,6 +2,8 @@
 // the paper's number and changes no lent byte. Each contract gives the answer and every lent byte at exit as a definition of what was lent.
 //
 // Net memory is the image itself, then zeros: so loading is a check and a copy, saving is a copy, and a step writes whole records.
+#![tactic(auto)]
+
 mod act;
 mod ask;
 
@@ -16,7 +18,7 @@ use format::Verdict;
 use stepping::Answer;
 
 // What saving answers: 0 with the length, 6 NONET, 20 ROOM.
-#[derive(Drop)]
+#[derive(Clone, Copy)]
 pub enum Saved {
     Whole(usize),
     NoNet,
@@ -24,7 +26,7 @@ pub enum Saved {
 }
 
 // What running answers: 0, 7 LONG, 6 NONET.
-#[derive(Drop)]
+#[derive(Clone, Copy)]
 pub enum Ran {
     Through,
     Long,

@@ -1,5 +1,7 @@
 // The records of a net, field by field as the image has them, by value. A reader asks for its record's place and tests nothing; a writer
 // gives the record's bytes. What a net is, and its image, is in specs/.
+#![tactic(auto)]
+
 ghost use Rattle.std.specs.Prelude.{◌≡◌, ◌+◌, ◌≤◌, length};
 ghost use Rattle.net.specs.Records.{four_words, eight_words, read_operand, four_operands, read_site, read_node, read_aspect, read_action, read_row, site_bytes, row_bytes};
 ghost use Rattle.net.specs.Net.{names, place_of, Rising};
@@ -8,13 +10,13 @@ ghost use Rattle.net.specs.Image.{sites_in};
 use words::{Found, word};
 
 // Tag 0 a name, 1 a variable, 2 binds a variable, 3 any, 4 binder.
-#[derive(Drop)]
+#[derive(Clone, Copy)]
 pub struct Operand {
     pub tag: u16,
     pub value: u16,
 }
 
-#[derive(Drop)]
+#[derive(Clone, Copy)]
 pub struct Site {
     pub name: u16,
     pub s: u16,
@@ -27,7 +29,7 @@ pub struct Site {
     pub vars: [u16; 8],
 }
 
-#[derive(Drop)]
+#[derive(Clone, Copy)]
 pub struct Node {
     pub kind: u8,
     pub count: u8,
@@ -37,7 +39,7 @@ pub struct Node {
     pub fields: [Operand; 4],
 }
 
-#[derive(Drop)]
+#[derive(Clone, Copy)]
 pub struct Aspect {
     pub owner: u8,
     pub capability: u8,
@@ -50,7 +52,7 @@ pub struct Aspect {
     pub recommendation: u16,
 }
 
-#[derive(Drop)]
+#[derive(Clone, Copy)]
 pub struct Action {
     pub owner: u8,
     pub zero: u8,
@@ -60,7 +62,7 @@ pub struct Action {
     pub fields: [Operand; 4],
 }
 
-#[derive(Drop)]
+#[derive(Clone, Copy)]
 pub struct Row {
     pub owner: u8,
     pub count: u8,

@@ -1,5 +1,7 @@
 // What the mandatory rules and the rules of the house say of an action: whether step 4 lets it pass. The bodies of the
 // image are read where they stand; only the records that an answer needs are looked at.
+#![tactic(auto)]
+
 ghost use Rattle.std.specs.Prelude.{◌≡◌, ◌/◌, ◌<◌, length};
 ghost use Rattle.words.specs.Tables.{Ordered};
 ghost use Rattle.belnap.specs.Belnap.{grants};

@@ -6,7 +6,7 @@ ghost use Rattle.policy.specs.Owners.{Grouped};
 use words::count_below;
 
 // Records `first` up to `first + count`.
-#[derive(Drop)]
+#[derive(Clone, Copy)]
 pub struct Stretch {
     pub first: usize,
     pub count: usize,

@@ -6,7 +6,7 @@ use level::Level;
 use net::Site;
 
 // For actions of this capability the left term has to dominate the right.
-#[derive(Drop)]
+#[derive(Clone, Copy)]
 pub struct Rule {
     pub capability: u8,
     pub left: usize,

@@ -12,7 +12,9 @@ pub data Tried : Bool → List Bool → Type 0 where
   stop : {r b : Bool} {l : List Bool} → r ≡ b → r ≡ false → Tried r (b ∷ l)
 
 pub tried : {r : Bool} (l : List Bool) → Tried r l → r ≡ all_of l
+tried {r = r} [] x = elim x [ ]
 tried (b ∷ []) (last e) = e
+tried {r = r} (b ∷ []) (on e t h) = elim h [ ]
 tried (b ∷ c ∷ l) (on e t h) = rw (sym e ∙ t) (tried (c ∷ l) h)
 tried (b ∷ []) (stop e t) = e
 tried (b ∷ c ∷ l) (stop e t) = rw (sym e ∙ t) t

@@ -1,5 +1,7 @@
 // Which nodes and aspects are good: the rules of the house, as an image may hold them, and the rules of operands, counts and owners that
 // the other kinds of record share. Records are read by value, each once; readers ask for their place and test nothing.
+#![tactic(auto)]
+
 mod aspects;
 mod nodes;
 mod parts;

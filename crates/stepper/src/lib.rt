@@ -1,4 +1,6 @@
 // The work of the stepping program: an image is loaded, steps are run on it, and what came of it is put into lent bytes as lines of text.
+#![tactic(auto)]
+
 ghost use Rattle.std.specs.Prelude.{◌≡◌, true, ◌+◌, ◌*◌, ◌/◌, ◌≤◌, ◌<◌, length};
 ghost use Rattle.io.specs.Counts.{IsPrefixLen};
 ghost use Rattle.net.specs.Net.{held};

@@ -1,8 +1,10 @@
 // What a step answers. What a step is, on nets, is in specs/; that it keeps a net well formed is in proofs/.
+#![tactic(auto)]
+
 ghost use Rattle.std.specs.Prelude.{◌≡◌};
 ghost use Rattle.stepping.specs.Step.{number_of};
 
-#[derive(Drop)]
+#[derive(Clone, Copy)]
 pub enum Answer {
     Granted,
     Done,

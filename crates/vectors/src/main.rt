@@ -3,6 +3,8 @@
 //
 // The arguments of an operation are read from the front of the rest of its script; each operation answers how many bytes it took, and 0
 // where they are not there or ask for more than a buffer has, which ends the script.
+#![tactic(auto)]
+
 mod calls;
 mod say;
 

@@ -1,12 +1,14 @@
 // Numbers in lent bytes, little-endian; stretches of bytes copied, cleared, moved, put in and taken out; and the search in a table
 // whose records stand in the order of their first byte. Readers ask for their place and test nothing; what a function leaves of lent
 // bytes is one list in its contract.
+#![tactic(auto)]
+
 ghost use Rattle.std.specs.Prelude.{◌≡◌, ◌&&◌, ℕ, ◌+◌, ◌-◌, ◌*◌, ◌/◌, ◌^◌, ◌≤◌, ◌<◌, ltb, length, get_or, drop};
 ghost use Rattle.words.specs.Bytes.{u16_at, u32_at, u16_bytes, blank, all_zero, padded, splice, raised, lowered, inserted, removed};
 ghost use Rattle.words.specs.Tables.{count_below, starts_of, starts_more, starts_less};
 
 // What a search answers: the number that it found, or nothing.
-#[derive(Drop)]
+#[derive(Clone, Copy)]
 pub enum Found {
     At(usize),
     Nothing,
