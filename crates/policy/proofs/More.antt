@@ -70,6 +70,7 @@ policy-grants nodes sites rows act site l =
     grants-all (map (gives nodes sites rows act) (house site l)) ∙ all_map (gives nodes sites rows act) grants (house site l)
 
 gathered_each : (g : Aspect → ℕ) (l : List Aspect) → T (grants (gather_all (map g l))) → (a : Aspect) → Memᴰ a l → T (grants (g a))
+gathered_each g [] t a h = elim h [ ]
 gathered_each g (x ∷ l) t a (Memᴰ.head e) = subst (λ (y : Aspect). T (grants (g y))) (sym e) (gather_grants (g x) (gather_all (map g l)) t).0
 gathered_each g (x ∷ l) t a (Memᴰ.tail h) = gathered_each g l (gather_grants (g x) (gather_all (map g l)) t).1 a h
 
@@ -80,6 +81,7 @@ gathered_all g (x ∷ l) f = gather_both (g x) (gather_all (map g l)) (f x (Mem�
 -- those that pass a test: each stands in the list and passes, and each that does is one of them
 module _ (p : Aspect → Bool) where
   of_those : (l : List Aspect) (a : Aspect) → Memᴰ a (those p l) → Memᴰ a l × (p a ≡ true)
+  of_those [] a h = elim h [ ]
   of_those (x ∷ l) a h = pick (p x) refl h (of_those l a)
     where
       pick : (b : Bool) → p x ≡ b → Memᴰ a (cond b (x ∷ those p l) (those p l)) → (Memᴰ a (those p l) → Memᴰ a l × (p a ≡ true)) → Memᴰ a (x ∷ l) × (p a ≡ true)
@@ -88,6 +90,7 @@ module _ (p : Aspect → Bool) where
       pick false e q f = let r = f q in (Memᴰ.tail r.0, r.1)
 
   in_those : (l : List Aspect) (a : Aspect) → Memᴰ a l → p a ≡ true → Memᴰ a (those p l)
+  in_those [] a h e = elim h [ ]
   in_those (x ∷ l) a (Memᴰ.head q) e = rw (ap p (sym q) ∙ e) (Memᴰ.head q)
   in_those (x ∷ l) a (Memᴰ.tail q) e = pick (p x) (in_those l a q e)
     where
