@@ -97,6 +97,7 @@ tags t h = pick (eqb t 0) (eqb t 1) refl refl h
     pick : (a b : Bool) → eqb t 0 ≡ a → eqb t 1 ≡ b → T (a || (b || false)) → (b ≡ false → t ≡ 0) × (t < 2)
     pick true b e f u = let z = eqb-true t 0 e in ((λ n. z), omega arith)
     pick false true e f u = let z = eqb-true t 1 f in ((λ n. no (cc)), omega arith)
+    pick false false e f u = elim u [ ]
 
 -- such operands bind nothing
 pub bind_nothing : (v : ℕ) (l : List Operand) → T (all (operand_ok (0 ∷ 1 ∷ [])) l) → some (speaks 2 v) l ≡ false
