@@ -70,6 +70,7 @@ pub struct Row {
 }
 
 // The four words from byte `at` on.
+#[tactic(auto, unfolding(crate::specs::Records::four_words))]
 fn four_words(s: &[u8], at: usize) -> [u16; 4]
     requires { at + 8 ≤ length s.now }
     ensures { result ≡ four_words s.now at }
@@ -83,6 +84,7 @@ fn four_words(s: &[u8], at: usize) -> [u16; 4]
 }
 
 // The eight words from byte `at` on.
+#[tactic(auto, unfolding(crate::specs::Records::eight_words))]
 fn eight_words(s: &[u8], at: usize) -> [u16; 8]
     requires { at + 16 ≤ length s.now }
     ensures { result ≡ eight_words s.now at }
@@ -100,6 +102,7 @@ fn eight_words(s: &[u8], at: usize) -> [u16; 8]
 }
 
 // The operand at byte `at`.
+#[tactic(auto, unfolding(crate::specs::Records::read_operand))]
 pub fn operand_at(s: &[u8], at: usize) -> Operand
     requires { at + 4 ≤ length s.now }
     ensures { result ≡ read_operand s.now at }
@@ -111,6 +114,7 @@ pub fn operand_at(s: &[u8], at: usize) -> Operand
 }
 
 // The four operands from byte `at` on.
+#[tactic(auto, unfolding(crate::specs::Records::four_operands))]
 pub fn four_operands(s: &[u8], at: usize) -> [Operand; 4]
     requires { at + 16 ≤ length s.now }
     ensures { result ≡ four_operands s.now at }
@@ -124,6 +128,7 @@ pub fn four_operands(s: &[u8], at: usize) -> [Operand; 4]
 }
 
 // The site whose record starts at byte `at`.
+#[tactic(auto, unfolding(crate::specs::Records::read_site))]
 pub fn site_at(s: &[u8], at: usize) -> Site
     requires { at + 32 ≤ length s.now }
     ensures { result ≡ read_site s.now at }
@@ -142,6 +147,7 @@ pub fn site_at(s: &[u8], at: usize) -> Site
 }
 
 // The node whose record starts at byte `at`.
+#[tactic(auto, unfolding(crate::specs::Records::read_node))]
 pub fn node_at(s: &[u8], at: usize) -> Node
     requires { at + 24 ≤ length s.now }
     ensures { result ≡ read_node s.now at }
@@ -157,6 +163,7 @@ pub fn node_at(s: &[u8], at: usize) -> Node
 }
 
 // The aspect whose record starts at byte `at`.
+#[tactic(auto, unfolding(crate::specs::Records::read_aspect))]
 pub fn aspect_at(s: &[u8], at: usize) -> Aspect
     requires { at + 32 ≤ length s.now }
     ensures { result ≡ read_aspect s.now at }
@@ -175,6 +182,7 @@ pub fn aspect_at(s: &[u8], at: usize) -> Aspect
 }
 
 // The action whose record starts at byte `at`.
+#[tactic(auto, unfolding(crate::specs::Records::read_action))]
 pub fn action_at(s: &[u8], at: usize) -> Action
     requires { at + 24 ≤ length s.now }
     ensures { result ≡ read_action s.now at }
@@ -190,6 +198,7 @@ pub fn action_at(s: &[u8], at: usize) -> Action
 }
 
 // The row whose record starts at byte `at`.
+#[tactic(auto, unfolding(crate::specs::Records::read_row))]
 pub fn row_at(s: &[u8], at: usize) -> Row
     requires { at + 10 ≤ length s.now }
     ensures { result ≡ read_row s.now at }
@@ -224,6 +233,7 @@ pub fn place_of(sites: &[u8], wanted: u16) -> Found
 }
 
 // The 32 bytes of a site's record.
+#[tactic(auto, unfolding(crate::specs::Records::site_bytes))]
 pub fn site_bytes(x: Site) -> [u8; 32]
     ensures { result ≡ site_bytes x }
 {
@@ -265,6 +275,7 @@ pub fn site_bytes(x: Site) -> [u8; 32]
 }
 
 // The 10 bytes of a row's record.
+#[tactic(auto, unfolding(crate::specs::Records::row_bytes, crate::specs::Records::word_bytes4))]
 pub fn row_bytes(x: Row) -> [u8; 10]
     ensures { result ≡ row_bytes x }
 {
