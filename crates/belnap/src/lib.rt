@@ -19,6 +19,7 @@ const IMPLIES: [[u8; 4]; 4] = [[0, 1, 2, 3], [0, 1, 2, 3], [1, 1, 1, 1], [1, 1, 
 const BEFORE: [[u8; 4]; 4] = [[0, 1, 2, 3], [1, 1, 1, 1], [2, 2, 2, 2], [3, 3, 3, 3]];
 
 // The operator numbered op, from 0 and in the order of the node kinds 19 to 24, of two values.
+#[tactic(auto, using(crate::proofs::Tables::built), unfolding(crate::specs::Belnap::operate_of))]
 pub fn operate(op: u8, p: u8, q: u8) -> u8
     requires { (op < 6) × (p < 4) × (q < 4) }
     ensures { (result ≡ operate_of op p q) × (result < 4) }
@@ -36,6 +37,7 @@ pub fn operate(op: u8, p: u8, q: u8) -> u8
 }
 
 // Whether the first value decides the operator, whatever the second is.
+#[tactic(auto, unfolding(crate::specs::Belnap::settles))]
 pub fn settles(op: u8, p: u8) -> bool
     requires { op < 6 }
     ensures { result ≡ settles op p }

@@ -18,6 +18,7 @@ impl Level {
     pub const TOP: Level = Level { code: 65535 };
 
     // Whether this level dominates the other: by rank, and by the mask of the other's categories.
+    #[tactic(auto, unfolding(crate::specs::Level::dominates))]
     pub fn dominates(self, other: Level) -> bool
         ensures { result ≡ dominates self.code other.code }
     {
@@ -27,6 +28,7 @@ impl Level {
     }
 
     // The larger rank, and the union of the categories.
+    #[tactic(auto, unfolding(crate::specs::Level::join))]
     pub fn join(self, other: Level) -> Level
         ensures { result.code ≡ join self.code other.code }
     {
