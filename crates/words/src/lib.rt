@@ -210,7 +210,7 @@ pub fn starts(s: &[u8], w: usize) -> [u16; 33]
 }
 
 // The starts once a record of this owner is added: those after it go up.
-pub fn starts_more_lem(starts: &mut [u16; 33], owner: usize)
+pub fn starts_more(starts: &mut [u16; 33], owner: usize)
     requires { (length starts.old ≡ 33) × ((t : ℕ) → get_or starts.old t 0 < 65535) }
     ensures { starts.new ≡ starts_more owner starts.old }
 {
