@@ -150,7 +150,7 @@ fn values(f: [Operand; 4]) -> [u16; 4]
 }
 
 // The row that a put adds.
-fn row_put_lem(t: usize, action: Action) -> Row
+fn row_put(t: usize, action: Action) -> Row
     requires { t < 256 }
     ensures { result ≡ row_put (act_of 0 t action) }
 {
