@@ -276,7 +276,7 @@ fn put(memory: &mut [u8], i: usize, t: usize, action: Action)
     let rows = rows_of(memory);
     write_sites(memory, i, source, t, target);
     if p.room {
-        add_row(memory, rows.base, rows.count, p.place, row_put_lem(t, action));
+        add_row(memory, rows.base, rows.count, p.place, row_put(t, action));
     }
 }
 
