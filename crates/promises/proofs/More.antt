@@ -30,6 +30,7 @@ use Rattle.promises.specs.Runs.{keep, granted, Follows}
 
 -- ---- each aspect of a well-formed net refers to nodes that are there
 at_number : (a : Aspect) (l : List Aspect) → Memᴰ a l → (k : ℕ) × (k < length l) × (aspect_at l k ≡ a)
+at_number a [] h = elim h [ ]
 at_number a (x ∷ l) (Memᴰ.head e) = (0, omega arith, sym e)
 at_number a (x ∷ l) (Memᴰ.tail h) = let p = at_number a l h in (suc p.0, omega arith, p.2)
 
@@ -119,6 +120,7 @@ module _ (s : State) (r₁ r₂ : Rules) (formed : T (well_formed (record { stat
 -- what stands in a list stands in it still when one more is put in
 stands : (x : Aspect) {a : Aspect} (k : ℕ) (l : List Aspect) → Memᴰ a l → Memᴰ a (insert_at k x l)
 stands x zero l h = Memᴰ.tail h
+stands x (suc k) [] h = elim h [ ]
 stands x (suc k) (y ∷ l) (Memᴰ.head e) = Memᴰ.head e
 stands x (suc k) (y ∷ l) (Memᴰ.tail h) = Memᴰ.tail (stands x k l h)
 
