@@ -141,6 +141,7 @@ fn allowed(rows: &[u8], starts: &[u16; 33], target: usize, action: Action) -> As
 }
 
 // Step 4: what the rules say of an action of site i at the target.
+#[tactic(auto, using(crate::proofs::Asking::contents_of))]
 fn judged(image: &[u8], starts: &[u16; 33], i: usize, target: usize, action: Action) -> Asked
     requires { (verdict_of image.now ≡ Accepted) × (i < length (state_in image.now).sites) × (target < length (state_in image.now).sites) × (starts.now ≡ starts_of 10 (body_in image.now 5)) }
     ensures { plan_in i result ≡ planned (rules_in image.now) (state_in image.now) (go (act_of i target action)) }
@@ -157,6 +158,7 @@ fn judged(image: &[u8], starts: &[u16; 33], i: usize, target: usize, action: Act
 }
 
 // Step 3: where the target's value is the name of a site.
+#[tactic(auto, using(crate::proofs::Asking::contents_of))]
 fn placed(image: &[u8], starts: &[u16; 33], i: usize, action: Action) -> Asked
     requires { (verdict_of image.now ≡ Accepted) × (i < length (state_in image.now).sites) × (starts.now ≡ starts_of 10 (body_in image.now 5)) }
     ensures { plan_in i result ≡ planned (rules_in image.now) (state_in image.now) (toward i action (place_of (names (state_in image.now).sites) action.target.value)) }
@@ -186,6 +188,7 @@ fn next_of(actions: &[u8], i: usize, p: u16) -> Found
 }
 
 // What site i would do, on an accepted image, where the rows of each site start as said.
+#[tactic(auto, using(crate::proofs::Asking::contents_of))]
 pub(crate) fn ask(image: &[u8], starts: &[u16; 33], i: usize) -> Asked
     requires { (verdict_of image.now ≡ Accepted) × (starts.now ≡ starts_of 10 (body_in image.now 5)) }
     ensures { plan_in i result ≡ asking (rules_in image.now) (state_in image.now) i }

@@ -1,12 +1,7 @@
 -- `monitor::ask::next_of` meets its contract: the action p past the first of site i is i's exactly if i has more than p. Assumes nothing.
-use mathlib.Core.Path.{◌≡◌}
-use mathlib.Core.List.{List}
-use Prim.Native.Nat.{ℕ, ◌+◌, ◌-◌, ◌*◌, ◌/◌, ◌≤◌, ◌<◌}
-use native.Mathlib.Omega.{arith}
-use borrow.Author.Rules.{rules}
+use Rattle.std.proofs.Common.{◌≡◌, ℕ, ◌+◌, ◌-◌, ◌*◌, ◌/◌, ◌≤◌, ◌<◌, List, ltb, eqb, length, get_or, arith}
 use borrow.Author.Tests.{le-ltb, eq-eqb, ne_eqb}
-use lib.Dec.{ltb, eqb, ltb→lt, lt→ltb}
-use lib.ListN.{length, get_or}
+use lib.Dec.{ltb→lt, lt→ltb}
 use Rattle.words.specs.Tables.{Ordered, count_below}
 use Rattle.words.specs.declared.Found.{Found}
 use Rattle.words.specs.declared.Found.TheVariants.{At, Nothing}
@@ -16,8 +11,7 @@ use Rattle.net.specs.Net.{program}
 use Rattle.net.specs.Image.{actions_in}
 use Rattle.monitor.specs.Plan.{next_in}
 use Rattle.monitor.proofs.Stretches.{action_front, ends_within, owner_on, owned_length}
-use Rattle.monitor.proofs.ask.next_of.Statement.{statement}
-use Rattle.monitor.proofs.ask.next_of.Tie as tie
+use Rattle.monitor.proofs.ask.next_of.Goals as goal
 
 module _ (b : List ℕ) (order : Ordered action_width b) (i p : ℕ) {first : ℕ} (e : first ≡ count_below b 24 (length b / 24) i) where
   abbrev begins : ℕ
@@ -49,28 +43,11 @@ module _ (b : List ℕ) (order : Ordered action_width b) (i p : ℕ) {first : �
     own : get_or b (24 * (first + p)) 0 ≡ i → Next (At (first + p))
     own o = rw (by-owner, eq-eqb (get_or b (24 * (first + p)) 0) i o, e)
 
-returns : tie.Need-returns
-returns c =
-    let s = c.before.before.before in
-    past s.args.actions.now s.requires s.args.i s.args.p c.before.count-below.ensures.0 c.if1.true
+pub returns-then-n-k : goal.returns-then-n-k
+returns-then-n-k c = past c.args.actions.now c.requires c.args.i c.args.p c.count_below.ensures.0 c.if-n-k.true
 
-cast-if2 : tie.Need-overflow-cast-if2
-cast-if2 c = omega (arith, c.shared-slice-known2.given (24 * (c.before.before.count-below.result + c.before.before.before.before.args.p)))
+pub returns-then-actions-k : goal.returns-then-actions-k
+returns-then-actions-k c = other c.args.actions.now c.requires c.args.i c.args.p c.count_below.ensures.0 c.if-n-k.false c.if-actions-k.true
 
-returns-2 : tie.Need-returns-2
-returns-2 c =
-    let e = c.before.before in
-    let s = e.before.before.before in
-    other s.args.actions.now s.requires s.args.i s.args.p e.before.count-below.ensures.0 e.if1.false c.if2.true
-
-returns-3 : tie.Need-returns-3
-returns-3 c =
-    let e = c.before.before in
-    let s = e.before.before.before in
-    own s.args.actions.now s.requires s.args.i s.args.p e.before.count-below.ensures.0 e.if1.false c.if2.false
-
-pub next-of-spec : {M : Type 1} → statement M
-next-of-spec =
-    tie.close
-    (tie.spec
-    (λ c κs. search rules) (λ c. search rules) returns (λ c. search rules) (λ c. search rules) cast-if2 returns-2 returns-3)
+pub returns : goal.returns
+returns c = own c.args.actions.now c.requires c.args.i c.args.p c.count_below.ensures.0 c.if-n-k.false c.if-actions-k.false
