@@ -56,6 +56,7 @@ const MOST: [usize; 6] = [
 ];
 
 // Whether an image is as long as one can be: it has a header, and no more than the most records of every kind.
+#[tactic(auto, unfolding(crate::specs::Verdict::size_ok))]
 pub fn size_ok(s: &[u8]) -> bool
     ensures { result ≡ size_ok s.now }
 {
@@ -63,6 +64,7 @@ pub fn size_ok(s: &[u8]) -> bool
 }
 
 // The bytes of a record of a kind.
+#[tactic(auto, unfolding(net::specs::Image::width_of))]
 fn width(k: usize) -> usize
     requires { k < 6 }
     ensures { (result ≡ width_of k) × (result ≤ 32) }
@@ -71,6 +73,7 @@ fn width(k: usize) -> usize
 }
 
 // The most records of a kind.
+#[tactic(auto, unfolding(net::specs::Image::most_of))]
 fn most(k: usize) -> usize
     requires { k < 6 }
     ensures { result ≡ most_of k }
@@ -129,6 +132,7 @@ pub fn end(s: &[u8]) -> usize
 }
 
 // Whether the entry of a kind is right.
+#[tactic(auto, unfolding(net::specs::Image::entry_ok))]
 fn entry_ok(s: &[u8], k: usize) -> bool
     requires { (1 ≤ k) × (k < 6) × (44 ≤ length s.now) }
     ensures { result ≡ entry_ok s.now k }
@@ -139,6 +143,7 @@ fn entry_ok(s: &[u8], k: usize) -> bool
 }
 
 // Whether the contents are in order: five entries that are right, and the image ends with the last body.
+#[tactic(auto, unfolding(net::specs::Image::contents_ok))]
 pub fn contents_ok(s: &[u8]) -> bool
     requires { 44 ≤ length s.now }
     ensures { result ≡ contents_ok s.now }
@@ -150,6 +155,7 @@ pub fn contents_ok(s: &[u8]) -> bool
 }
 
 // The body of a kind: that part of an image whose contents are in order.
+#[tactic(auto, using(net::proofs::Bodies::least_length, net::proofs::Bodies::within), unfolding(net::specs::Image::body_in))]
 pub fn part(s: &[u8], k: usize) -> &[u8]
     requires { (1 ≤ k) × (k < 6) × (contents_ok s.now ≡ true) }
     ensures result_value { result.now ≡ body_in s.now k }

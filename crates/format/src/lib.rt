@@ -147,6 +147,7 @@ pub fn check(image: &[u8]) -> Verdict
 }
 
 // Whether a body is handed out: the kind is one of the five, and the image is accepted.
+#[tactic(auto, unfolding(crate::specs::Verdict::handed_out))]
 fn handed_out(image: &[u8], kind: u16) -> bool
     ensures { result ≡ handed_out image.now kind }
 {

@@ -8,6 +8,7 @@ ghost use Rattle.format.specs.Steps.{Ranged, EachRanged, bit_of, set_of, apart, 
 use net::Operand;
 
 // The variable of a part that has this tag.
+#[tactic(auto, unfolding(crate::specs::Steps::bit_of))]
 fn bit(tag: u16, x: Operand) -> u8
     requires { Ranged tag x }
     ensures { result ≡ bit_of tag x }
@@ -17,6 +18,7 @@ fn bit(tag: u16, x: Operand) -> u8
 }
 
 // The variables of those of four fields with this tag.
+#[tactic(auto, using(crate::proofs::Binding::set_steps))]
 fn set_of(tag: u16, f: [Operand; 4]) -> u8
     requires { EachRanged tag f }
     ensures { result ≡ set_of tag f }
@@ -25,6 +27,7 @@ fn set_of(tag: u16, f: [Operand; 4]) -> u8
 }
 
 // Whether no two fields bind one variable.
+#[tactic(auto, using(crate::proofs::Binding::apart_steps))]
 fn bound_once(f: [Operand; 4]) -> bool
     requires { EachRanged 2 f }
     ensures { result ≡ apart 2 f }
@@ -37,6 +40,7 @@ fn bound_once(f: [Operand; 4]) -> bool
 }
 
 // Whether the variables of an action with this target and these fields are good, after actions that bind `bound`.
+#[tactic(auto, unfolding(crate::specs::Steps::parts_ok))]
 pub fn parts_ok(bound: u8, target: Operand, f: [Operand; 4]) -> bool
     requires { Ranged 1 target × EachRanged 1 f × EachRanged 2 f }
     ensures { result ≡ parts_ok bound target f }

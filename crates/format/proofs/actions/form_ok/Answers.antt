@@ -1,0 +1,33 @@
+-- `format::actions::form_ok` meets its contract: its tests are the definition's, the last of them where the operands are good. Assumes nothing.
+use mathlib.Core.Path.{refl, sym, ◌∙◌}
+use mathlib.Core.Bool.{true, false}
+use native.Mathlib.Omega.{arith}
+use borrow.Author.Tests.{eq-eqb}
+use Rattle.words.proofs.Truth.{so, is_T}
+use Rattle.rulebook.specs.Parts.{tags_of}
+use Rattle.rulebook.proofs.Chains.{last, on, tried}
+use Rattle.format.specs.Steps.{form_rules}
+use Rattle.format.proofs.Binding.{operand_ranged, fields-ranged, fields_parts}
+use Rattle.format.proofs.actions.form_ok.Goals as goal
+
+-- the operands are good where their variables are looked at
+pub parts_ok-requires : goal.parts_ok-requires
+parts_ok-requires c =
+    let x = c.args.x in
+    let good = is_T _ (so c.operands_ok.ensures c.if-operands_ok.true) in (
+      operand_ranged 1 (omega arith) (omega arith) (tags_of false false false) x.target (is_T _ (so c.operand_ok.ensures c.if-operand_ok.true)),
+      fields-ranged x good 1 (omega arith) (omega arith),
+      fields-ranged x good 2 (omega arith) (omega arith),
+    )
+
+pub returns-then-operands_ok : goal.returns-then-operands_ok
+returns-then-operands_ok c =
+    let x = c.args.x in
+    let good = is_T _ (so c.operands_ok.ensures c.if-operands_ok.true) in
+    tried (form_rules c.args.bound x)
+    (on {r = true} (sym (eq-eqb _ _ c.if-x-eq0.true)) refl
+    (on c.capability_ok.ensures c.if-capability_ok.true
+    (on c.count_ok.ensures c.if-count_ok.true
+    (on c.operand_ok.ensures c.if-operand_ok.true
+    (on c.operands_ok.ensures c.if-operands_ok.true
+    (last (c.parts_ok.ensures ∙ fields_parts x good c.args.bound x.target)))))))

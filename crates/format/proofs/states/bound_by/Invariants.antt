@@ -1,0 +1,11 @@
+-- After j actions the set has what these bind.
+use Rattle.std.proofs.Common.{◌≡◌, ◌-◌, ◌≤◌, take, drop}
+use Rattle.net.specs.Image.{actions_in}
+use Rattle.format.specs.Steps.{bound_by}
+use Rattle.format.proofs.states.bound_by.Given as goal
+
+abbrev pub invariant-loop-j : goal.invariant-loop-j
+invariant-loop-j l = record { within : l.j ≤ l.n; binds : l.bound ≡ bound_by (take l.j (drop l.from (actions_in l.actions))) }
+
+abbrev pub decreases-loop-j : goal.decreases-loop-j
+decreases-loop-j l = l.n - l.j
