@@ -19,6 +19,7 @@ fn head_ok(x: Aspect) -> bool
 }
 
 // Whether two operands are not one variable.
+#[tactic(auto, unfolding(crate::specs::Steps::alone))]
 fn are_apart(x: Operand, y: Operand) -> bool
     ensures { result ≡ alone 1 x (y ∷ []) }
 {
@@ -26,6 +27,7 @@ fn are_apart(x: Operand, y: Operand) -> bool
 }
 
 // Whether source, target and fields take no variable twice.
+#[tactic(auto, using(crate::proofs::Cuts::once_six))]
 fn takes_once(source: Operand, target: Operand, l: [Operand; 4]) -> bool
     ensures { result ≡ once_each 1 (source ∷ target ∷ l) }
 {
@@ -34,6 +36,7 @@ fn takes_once(source: Operand, target: Operand, l: [Operand; 4]) -> bool
 }
 
 // Whether the cut is good.
+#[tactic(auto, unfolding(crate::specs::Steps::cut_ok))]
 fn cut_ok(x: Aspect) -> bool
     ensures { result ≡ cut_ok x }
 {
@@ -46,6 +49,7 @@ fn cut_ok(x: Aspect) -> bool
 }
 
 // Whether it names a condition and a recommendation.
+#[tactic(auto, using(words::proofs::Tables::table_length))]
 fn names_ok(nodes: &[u8], x: Aspect) -> bool
     ensures { result ≡ names_ok (nodes_in nodes.now) x }
 {
@@ -63,6 +67,7 @@ fn aspect_ok(aspects: &[u8], nodes: &[u8], sites: usize, k: usize) -> bool
 }
 
 // The first bad aspect, or how many there are.
+#[tactic(auto, using(words::proofs::First::first_none, words::proofs::First::first_more, words::proofs::First::first_stops, words::proofs::Tables::table_length))]
 pub fn first_bad_aspect(aspects: &[u8], nodes: &[u8], sites: usize) -> usize
     ensures { (result ≡ first_bad (aspect_ok sites (nodes_in nodes.now) (aspects_in aspects.now)) (length (aspects_in aspects.now))) × (result ≤ length (aspects_in aspects.now)) }
 {

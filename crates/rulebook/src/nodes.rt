@@ -39,6 +39,7 @@ fn has_one(kind: u8) -> bool
 }
 
 // Whether node j is lower than k and its kind one of low..high.
+#[tactic(auto, using(crate::proofs::Depths::kind_is))]
 fn kind_below(nodes: &[u8], k: usize, j: u16, low: u8, high: u8) -> bool
     requires { 24 * k ≤ length nodes.now }
     ensures { result ≡ (ltb j k && (leb low (node_at (nodes_in nodes.now) j).kind && leb (node_at (nodes_in nodes.now) j).kind high)) }
@@ -146,6 +147,7 @@ fn asked_ok(x: Node) -> bool
 }
 
 // Whether a node is good but for its depth.
+#[tactic(auto, unfolding(crate::specs::Steps::shape_ok))]
 fn shape_ok(nodes: &[u8], sites: &[u8], k: usize, x: Node) -> bool
     requires { (24 * k ≤ length nodes.now) × Rising (names (sites_in sites.now)) }
     ensures { result ≡ shape_ok (names (sites_in sites.now)) (nodes_in nodes.now) k x }
@@ -183,6 +185,7 @@ fn depth(x: Node, row: &[u8]) -> u8
 }
 
 // The depth of node k over the row of those before it, and one more than the limit where it is bad for another reason.
+#[tactic(auto, using(crate::proofs::Depths::node_is, crate::proofs::Depths::first_before, crate::proofs::Depths::second_before), unfolding(crate::specs::Steps::depth_at))]
 fn depth_at(nodes: &[u8], sites: &[u8], k: usize, row: &[u8]) -> u8
     requires { (24 * k + 24 ≤ length nodes.now) × (length row.now ≡ k) × ((j : ℕ) → get_or row.now j 0 ≤ depth_limit) × Rising (names (sites_in sites.now)) }
     ensures { result ≡ depth_at (names (sites_in sites.now)) (nodes_in nodes.now) k row.now }

@@ -55,6 +55,7 @@ pub fn speaks_of(tag: u16, v: u16, x: Operand) -> bool
 }
 
 // Whether an operand, where it has this tag, speaks of a variable that none from place `from` on speaks of with the tag.
+#[tactic(auto, unfolding(crate::specs::Steps::alone))]
 pub fn is_alone(tag: u16, x: Operand, l: [Operand; 4], from: usize) -> bool
     ensures { result ≡ alone tag x (drop from l) }
 {
@@ -93,6 +94,7 @@ pub fn capability_ok(c: u8) -> bool
 }
 
 // The owner before record k, 0 before the first.
+#[tactic(auto, using(crate::proofs::Owners::before_is))]
 fn owner_before(s: &[u8], w: usize, k: usize) -> u8
     requires { (w * k + w ≤ length s.now) × (0 < w) }
     ensures { result ≡ before (owners_in w s.now) k }
@@ -104,6 +106,7 @@ fn owner_before(s: &[u8], w: usize, k: usize) -> u8
 }
 
 // Whether record k's owner is a site and not below the owner before it.
+#[tactic(auto, using(crate::proofs::Owners::owner_is))]
 pub fn owner_ok(s: &[u8], w: usize, sites: usize, k: usize) -> bool
     requires { (w * k + w ≤ length s.now) × (0 < w) }
     ensures { result ≡ owner_ok sites (owners_in w s.now) k }
@@ -113,6 +116,7 @@ pub fn owner_ok(s: &[u8], w: usize, sites: usize, k: usize) -> bool
 }
 
 // Whether record k's owner has room for it: where owners never fall, the record so many before it has another owner.
+#[tactic(auto, using(crate::proofs::Rooms::room_look, crate::proofs::Owners::owner_there, crate::proofs::Owners::owner_is))]
 pub fn room_ok(s: &[u8], w: usize, limit: usize, k: usize) -> bool
     requires { (w * k + w ≤ length s.now) × (0 < w) × (0 < limit) × NeverFall (owners_in w s.now) k }
     ensures { result ≡ room_ok limit (owners_in w s.now) k }
