@@ -1,14 +1,7 @@
 -- `monitor::act::store_of` meets its contract: site t holds 16 rows or more exactly if the row 16 before the end of its rows is its own. Assumes nothing.
-use mathlib.Core.Path.{◌≡◌, sym, ◌∙◌}
-use mathlib.Core.Bool.{true, not}
-use mathlib.Core.List.{List}
-use Prim.Native.Nat.{ℕ, ◌+◌, ◌-◌, ◌*◌, ◌/◌, ◌≤◌, ◌<◌}
-use native.Mathlib.Nat.{mul-div-le}
-use native.Mathlib.Omega.{arith}
-use borrow.Author.Rules.{rules}
-use borrow.Author.Tests.{lt-ltb, lt-leb}
-use lib.Dec.{ltb, leb, eqb, nleb→lt, ltb→lt, lt→ltb}
-use lib.ListN.{length, get_or}
+use Rattle.std.proofs.Common.{◌≡◌, sym, ◌∙◌, true, not, List, ℕ, ◌+◌, ◌-◌, ◌*◌, ◌/◌, ◌≤◌, ◌<◌, length, get_or, arith, ltb, leb, eqb, ltb→lt, lt→ltb, lt-ltb}
+use borrow.Author.Tests.{lt-leb}
+use lib.Dec.{nleb→lt}
 use Rattle.words.specs.Tables.{Ordered, count_below}
 use Rattle.words.proofs.Truth.{same_truth}
 use Rattle.net.specs.Records.{row_width, no_row, read_row}
@@ -16,8 +9,7 @@ use Rattle.net.specs.Net.{held, store_limit}
 use Rattle.net.specs.Image.{rows_in}
 use Rattle.stepping.specs.Step.{place_for}
 use Rattle.monitor.proofs.Stretches.{row-front, owner_back, owned_count, place_ends}
-use Rattle.monitor.proofs.act.store_of.Statement.{statement}
-use Rattle.monitor.proofs.act.store_of.Tie as tie
+use Rattle.monitor.proofs.act.store_of.Goals as goal
 
 -- what the search found in the part r, said of the body b that it is
 module _ {r b : List ℕ} {end : ℕ} (t : ℕ) (is : r ≡ b) (order : Ordered row_width b) (e : end ≡ count_below r 10 (length r / 10) (t + 1)) where
@@ -45,32 +37,14 @@ module _ {r b : List ℕ} {end : ℕ} (t : ℕ) (is : r ≡ b) (order : Ordered 
       (λ l. lt→ltb (end - first) 16 (omega (arith, nleb→lt first (end - 16) l)))
       (λ l. rw (lt-leb first (end - 16) (omega (arith, ltb→lt (end - first) 16 l))) tt))
 
-count-below-requires : tie.Need-count-below-requires
-count-below-requires c κs =
-    let o : Ordered row_width c.part.result.now = rw c.part.ensures.0 c.before.before.requires.2 in
-    (mul-div-le (length c.part.result.now) 10, omega arith, o)
+pub returns-then-end-lt-STORE_LIMIT : goal.returns-then-end-lt-STORE_LIMIT
+returns-then-end-lt-STORE_LIMIT c =
+    let p = c.part-rows.ensures.result_value in
+    let e = c.count_below-end.ensures.0 in
+    (place_is c.args.t p c.requires.2 e, few c.args.t p c.requires.2 e c.if-end-lt-STORE_LIMIT.true)
 
-returns : tie.Need-returns
+pub returns : goal.returns
 returns c =
-    let s = c.before.before.before.before in
-    let p = c.before.before.part.ensures.0 in
-    let e = c.before.count-below.ensures.0 in
-    (place_is s.args.t p s.requires.2 e, few s.args.t p s.requires.2 e c.if1.true)
-
-cast-t11 : tie.Need-overflow-cast-t11
-cast-t11 c = omega (arith, c.shared-slice-known2.given (10 * (c.before.before.count-below.result - 16)))
-
-returns-2 : tie.Need-returns-2
-returns-2 c =
-    let f = c.before.before in
-    let s = f.before.before.before in
-    let p = f.before.part.ensures.0 in
-    let e = f.count-below.ensures.0 in
-    (place_is s.args.t p s.requires.2 e, by-owner s.args.t p s.requires.2 e c.before.if1.false)
-
-pub store-of-spec : {M : Type 1} → statement M
-store-of-spec =
-    tie.close
-    (tie.spec
-    (λ c κs. search rules) (λ c. search rules) count-below-requires returns (λ c. search rules)
-    (λ c. search rules) cast-t11 returns-2)
+    let p = c.part-rows.ensures.result_value in
+    let e = c.count_below-end.ensures.0 in
+    (place_is c.args.t p c.requires.2 e, by-owner c.args.t p c.requires.2 e c.if-end-lt-STORE_LIMIT.false)
