@@ -7,7 +7,7 @@ use native.Mathlib.Omega.{arith}
 use mir.Val.{Val}
 use denote.Laws.{Is}
 use denote.Struct.Declared.{row}
-use lib.ListN.{length, get_or, length-map}
+use lib.ListN.{length, get_or}
 use Rattle.words.specs.Bytes.{u16_at}
 use Rattle.net.specs.Records.{four_words, four_operands, read_operand}
 use Rattle.net.specs.declared.Operand.{Operand}
@@ -17,10 +17,10 @@ use Rattle.net.specs.contracts.Action as action
 use Rattle.net.specs.contracts.Row as the_row
 
 pub four_fields : (x : Action) (vs : List Val) → Is (row action.the_type) x vs → length x.fields ≡ 4
-four_fields x vs g = simp length-map at g.1.1.1.1.1.1.1.0.1.0.1
+four_fields x vs g = g.1.1.1.1.1.1.1.0.1.0.1
 
 pub four_values : (x : Row) (vs : List Val) → Is (row the_row.the_type) x vs → length x.fields ≡ 4
-four_values x vs g = simp length-map at g.1.1.1.1.0.1.0.1
+four_values x vs g = g.1.1.1.1.0.1.0.1
 
 -- a place among four is one of them
 one_of_four : (P : ℕ → Type 0) → P 0 → P 1 → P 2 → P 3 → (i : ℕ) → i < 4 → P i

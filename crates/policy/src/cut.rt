@@ -15,6 +15,7 @@ use words::word;
 
 // Whether a pattern fits a part of an action, which is a name or binds: a name fits that name, a variable any name, "any" all, "binder"
 // only what binds.
+#[tactic(auto, unfolding(crate::specs::House::pattern_fits))]
 fn pattern_fits(p: Operand, x: Operand) -> bool
     ensures { result ≡ pattern_fits p x }
 {
@@ -29,6 +30,7 @@ fn pattern_fits(p: Operand, x: Operand) -> bool
 }
 
 // The name of a site, as a part of an action.
+#[tactic(auto, using(crate::proofs::Bodies::name_in))]
 fn named(sites: &[u8], site: usize) -> Operand
     requires { site < length sites.now / 32 }
     ensures { result ≡ name (site_at (sites_in sites.now) site).name }
@@ -85,6 +87,7 @@ pub fn traps(
 }
 
 // A pattern meets its part of the action: a variable takes it.
+#[tactic(auto, unfolding(crate::specs::House::takes))]
 fn takes(vars: &mut [u16; 8], p: Operand, x: Operand)
     requires { length vars.old ≡ 8 }
     ensures { vars.new ≡ takes p x vars.old }

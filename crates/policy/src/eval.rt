@@ -18,6 +18,7 @@ use net::operand_at;
 use words::{size_at, word};
 
 // The "equal" node at byte `node`: both operands known, and the same.
+#[tactic(auto, unfolding(net::specs::Records::four_operands))]
 fn equal(nodes: &[u8], node: usize, vars: &[u16; 8]) -> bool
     requires { (node + 24 ≤ length nodes.now) × (length vars.now ≡ 8) }
     ensures { result ≡ known (meant vars.now (get_or (four_operands nodes.now (node + 8)) 0 (name 0))) (meant vars.now (get_or (four_operands nodes.now (node + 8)) 1 (name 0))) }

@@ -12,6 +12,7 @@ use net::{Operand, operand_at, place_of};
 use words::{Found, word};
 
 // Whether an operand of a test fits a row's value: "any", or a known value and the same one.
+#[tactic(auto, unfolding(crate::specs::House::asks))]
 fn asks(p: Operand, value: u16, vars: &[u16; 8]) -> bool
     requires { length vars.now ≡ 8 }
     ensures { result ≡ asks vars.now p value }

@@ -1,0 +1,12 @@
+-- `policy::house::policy_grants` meets its contract: the site's aspects are the stretch that `group` finds. Assumes nothing.
+use Rattle.net.specs.Records.{aspect_width, no_aspect, read_aspect}
+use Rattle.policy.specs.House.{policy}
+use Rattle.policy.proofs.Bodies.{aspect_owner}
+use Rattle.policy.proofs.Owned.{owned}
+use Rattle.policy.proofs.house.policy_grants.Goals as goal
+
+pub returns : goal.returns
+unfolding policy
+returns c =
+    rw (owned read_aspect (λ x. x.owner) no_aspect aspect_owner aspect_width c.args.aspects.now c.requires.1 c.args.site c.group-own.result.first c.group-own.result.count c.group-own.ensures)
+    c.all_grant.ensures
