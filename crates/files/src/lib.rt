@@ -1,17 +1,37 @@
-// A file, read whole.
+// A file or an input, read whole.
 #![tactic(auto)]
 
+ghost use Rattle.std.specs.Prelude.{◌<◌, length, take, IfOk};
+ghost use Rattle.std.specs.Io.KnownBytes.{Consumes, IsAtEnd};
 ghost use Rattle.io.specs.Counts.{IsPrefixLen};
 
-// Reads a file into the front of lent bytes, as much as they hold, and answers how many it read: 0 where it cannot be opened.
-pub fn read(path: &[u8], out: &mut [u8]) -> usize
-    ensures { IsPrefixLen result out.new }
+use std::fs::File;
+use std::io::{Read, Result};
+use std::rt::Files;
+
+// Reads into the front of lent bytes until they are full or the input ends, and answers how many it read.
+pub fn fill<R: Read>(input: &mut R, out: &mut [u8]) -> Result<usize>
+    ensures prefix_len { IfOk result (λ n. IsPrefixLen n out.new) }
+    ensures bytes { IfOk result (λ n. Consumes (R.remaining input.old) (R.remaining input.new) (take n out.new)) }
+    ensures end { IfOk result (λ n. n < length out.new → IsAtEnd (R.remaining input.new)) }
 {
-    let file = os::open_read(path);
-    if file < 0 {
-        return 0;
+    let mut done = 0;
+    while done < out.len() {
+        let n = input.read(&mut out[done..])?;
+        if n == 0 {
+            break;
+        }
+        done += n;
     }
-    let n = io::read_full(file, out);
-    libc::close(file);
-    n
+    Ok(done)
+}
+
+// Reads a file into the front of lent bytes, as much as they hold, and answers how many it read: 0 where it cannot be opened.
+pub fn read(files: &impl Files, path: &str, out: &mut [u8]) -> Result<usize>
+    ensures { IfOk result (λ n. IsPrefixLen n out.new) }
+{
+    let Ok(mut file) = File::open(files, path) else {
+        return Ok(0);
+    };
+    fill(&mut file, out)
 }

@@ -8,9 +8,10 @@
 mod calls;
 mod say;
 
-ghost use Rattle.std.specs.Prelude.{◌≤◌, length};
+ghost use Rattle.std.specs.Prelude.{◌≤◌, length, IfOk};
 
-use libc::STDOUT_FILENO;
+use std::io::Result;
+use std::rt::Files;
 use words::long_at;
 
 // The bytes of the memory buffer, the most answers and the most output bytes.
@@ -24,112 +25,112 @@ const OUTPUT: usize = 65536;
 const FILL: u8 = 170;
 
 // CHECK: u32 n, n image bytes.
-fn check(rest: &[u8]) -> usize
-    ensures { result ≤ length rest.now }
+fn check(rt: &impl Print, rest: &[u8]) -> Result<usize>
+    ensures { IfOk result (λ n. n ≤ length rest.now) }
 {
     if rest.len() < 4 {
-        return 0;
+        return Ok(0);
     }
     let n = long_at(rest, 0);
     if rest.len() - 4 < n {
-        return 0;
+        return Ok(0);
     }
-    calls::check(&rest[4..4 + n]);
-    4 + n
+    calls::check(rt, &rest[4..4 + n])?;
+    Ok(4 + n)
 }
 
 // LOAD: u32 m, u32 n, n image bytes.
-fn load(rest: &[u8], memory: &mut [u8]) -> usize
-    ensures { result ≤ length rest.now }
+fn load(rt: &impl Print, rest: &[u8], memory: &mut [u8]) -> Result<usize>
+    ensures { IfOk result (λ n. n ≤ length rest.now) }
 {
     if rest.len() < 8 {
-        return 0;
+        return Ok(0);
     }
     let m = long_at(rest, 0);
     let n = long_at(rest, 4);
     if rest.len() - 8 < n {
-        return 0;
+        return Ok(0);
     }
     if memory.len() < m {
-        return 0;
+        return Ok(0);
     }
-    calls::load(&rest[8..8 + n], memory, m);
-    8 + n
+    calls::load(rt, &rest[8..8 + n], memory, m)?;
+    Ok(8 + n)
 }
 
 // STEP: u32 m, u64 site.
-fn step(rest: &[u8], memory: &mut [u8]) -> usize
-    ensures { result ≤ length rest.now }
+fn step(rt: &impl Print, rest: &[u8], memory: &mut [u8]) -> Result<usize>
+    ensures { IfOk result (λ n. n ≤ length rest.now) }
 {
     if rest.len() < 12 {
-        return 0;
+        return Ok(0);
     }
     let m = long_at(rest, 0);
     let site = long_at(rest, 4) + 4294967296 * long_at(rest, 8);
     if memory.len() < m {
-        return 0;
+        return Ok(0);
     }
-    calls::step(memory, m, site);
-    12
+    calls::step(rt, memory, m, site)?;
+    Ok(12)
 }
 
 // RUN: u32 m, u32 n, n step bytes, u32 k.
-fn run(rest: &[u8], memory: &mut [u8]) -> usize
-    ensures { result ≤ length rest.now }
+fn run(rt: &impl Print, rest: &[u8], memory: &mut [u8]) -> Result<usize>
+    ensures { IfOk result (λ n. n ≤ length rest.now) }
 {
     if rest.len() < 12 {
-        return 0;
+        return Ok(0);
     }
     let m = long_at(rest, 0);
     let n = long_at(rest, 4);
     if rest.len() - 12 < n {
-        return 0;
+        return Ok(0);
     }
     let k = long_at(rest, 8 + n);
     if memory.len() < m {
-        return 0;
+        return Ok(0);
     }
     if ANSWERS < k {
-        return 0;
+        return Ok(0);
     }
     let mut answers = [FILL; ANSWERS];
-    calls::run(memory, m, &rest[8..8 + n], &mut answers, k);
-    12 + n
+    calls::run(rt, memory, m, &rest[8..8 + n], &mut answers, k)?;
+    Ok(12 + n)
 }
 
 // SAVE: u32 m, u32 k.
-fn save(rest: &[u8], memory: &[u8]) -> usize
-    ensures { result ≤ length rest.now }
+fn save(rt: &impl Print, rest: &[u8], memory: &[u8]) -> Result<usize>
+    ensures { IfOk result (λ n. n ≤ length rest.now) }
 {
     if rest.len() < 8 {
-        return 0;
+        return Ok(0);
     }
     let m = long_at(rest, 0);
     let k = long_at(rest, 4);
     if memory.len() < m {
-        return 0;
+        return Ok(0);
     }
     if OUTPUT < k {
-        return 0;
+        return Ok(0);
     }
     let mut output = [FILL; OUTPUT];
-    calls::save(&memory[0..m], &mut output, k);
-    8
+    calls::save(rt, &memory[0..m], &mut output, k)?;
+    Ok(8)
 }
 
 // BODY: u32 n, n image bytes, u16 kind.
-fn body(rest: &[u8]) -> usize
-    ensures { result ≤ length rest.now }
+fn body(rt: &impl Print, rest: &[u8]) -> Result<usize>
+    ensures { IfOk result (λ n. n ≤ length rest.now) }
 {
     if rest.len() < 6 {
-        return 0;
+        return Ok(0);
     }
     let n = long_at(rest, 0);
     if rest.len() - 6 < n {
-        return 0;
+        return Ok(0);
     }
-    calls::body(&rest[4..4 + n], words::word(rest, 4 + n));
-    6 + n
+    calls::body(rt, &rest[4..4 + n], words::word(rest, 4 + n))?;
+    Ok(6 + n)
 }
 
 // POKE: u32 at, u8 value.
@@ -153,64 +154,64 @@ fn wide(x: u8) -> usize {
 }
 
 // TEXT: u8 n, n bytes, printed as a line.
-fn text(rest: &[u8]) -> usize
-    ensures { result ≤ length rest.now }
+fn text(rt: &impl Print, rest: &[u8]) -> Result<usize>
+    ensures { IfOk result (λ n. n ≤ length rest.now) }
 {
     if rest.len() < 1 {
-        return 0;
+        return Ok(0);
     }
     let n = wide(rest[0]);
     if rest.len() - 1 < n {
-        return 0;
+        return Ok(0);
     }
-    io::write_all(STDOUT_FILENO, &rest[1..1 + n]);
-    io::write_all(STDOUT_FILENO, b"\n");
-    1 + n
+    rt.write_all(&rest[1..1 + n])?;
+    rt.write_all(b"\n")?;
+    Ok(1 + n)
 }
 
 // Runs the operation of a number, its arguments at the front of `rest`.
-fn operation(op: u8, rest: &[u8], memory: &mut [u8]) -> usize
-    ensures { result ≤ length rest.now }
+fn operation(rt: &impl Print, op: u8, rest: &[u8], memory: &mut [u8]) -> Result<usize>
+    ensures { IfOk result (λ n. n ≤ length rest.now) }
 {
     match op {
-        1 => check(rest),
-        2 => load(rest, memory),
-        3 => step(rest, memory),
-        4 => run(rest, memory),
-        5 => save(rest, memory),
-        6 => body(rest),
-        7 => poke(rest, memory),
-        8 => text(rest),
-        _ => 0,
+        1 => check(rt, rest),
+        2 => load(rt, rest, memory),
+        3 => step(rt, rest, memory),
+        4 => run(rt, rest, memory),
+        5 => save(rt, rest, memory),
+        6 => body(rt, rest),
+        7 => Ok(poke(rest, memory)),
+        8 => text(rt, rest),
+        _ => Ok(0),
     }
 }
 
 // Runs a script from memory that is zero.
-fn script(s: &[u8]) {
+fn script(rt: &impl Print, s: &[u8]) -> Result<()> {
     let mut buffer = [0u8; MEMORY];
     let memory: &mut [u8] = &mut buffer;
     let mut at = 0;
     while at < s.len() {
-        let taken = operation(s[at], &s[at + 1..], memory);
+        let taken = operation(rt, s[at], &s[at + 1..], memory)?;
         if taken == 0 {
-            io::write_all(STDOUT_FILENO, b"script\n");
-            return;
+            return rt.write_all(b"script\n");
         }
         at = at + 1 + taken;
     }
+    Ok(())
 }
 
 // Runs the script in a file.
-fn file(path: &[u8]) {
+fn file(rt: &(impl Files + Print), path: &str) -> Result<()> {
     let mut bytes = [0u8; 262144];
-    let n = files::read(path, &mut bytes);
-    script(&bytes[..n]);
+    let n = files::read(rt, path, &mut bytes)?;
+    script(rt, &bytes[..n])
 }
 
-fn main() {
-    file(b"1-header");
-    file(b"2-records");
-    file(b"3-steps");
-    file(b"4-memory");
-    file(b"5-random");
+fn main(rt: HostRuntime) -> Result<()> {
+    file(&rt, "1-header")?;
+    file(&rt, "2-records")?;
+    file(&rt, "3-steps")?;
+    file(&rt, "4-memory")?;
+    file(&rt, "5-random")
 }

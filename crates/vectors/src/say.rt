@@ -1,7 +1,7 @@
 // What is printed of a call: words, each with numbers after it, in one line; and sums of bytes.
 ghost use Rattle.std.specs.Prelude.{◌+◌, ◌*◌, ◌≤◌, length};
 
-use libc::STDOUT_FILENO;
+use std::io::Result;
 
 // Puts a word and numbers into a line from byte `at` on.
 pub fn say(line: &mut [u8], at: usize, word: &[u8], numbers: &[u64]) -> usize
@@ -13,11 +13,11 @@ pub fn say(line: &mut [u8], at: usize, word: &[u8], numbers: &[u64]) -> usize
 }
 
 // Ends a line of n bytes and prints it.
-pub fn print(line: &mut [u8], n: usize)
+pub fn print(rt: &impl Print, line: &mut [u8], n: usize) -> Result<()>
     requires { n + 1 ≤ length line.old }
 {
     let end = lines::text(line, n, b"\n");
-    io::write_all(STDOUT_FILENO, &line[0..end]);
+    rt.write_all(&line[0..end])
 }
 
 // A byte as a number of 64 bits.

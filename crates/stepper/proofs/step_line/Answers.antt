@@ -1,0 +1,12 @@
+-- `stepper::step_line` meets its contract: the index, then the line of the two numbers. Assumes nothing.
+use Rattle.std.proofs.Common.{arith}
+use Rattle.lines.proofs.Texts.{decimal-length, put_then}
+use Rattle.stepper.specs.Farmstep.{step_line}
+use Rattle.stepper.proofs.step_line.Goals as goal
+
+pub line-requires : goal.line-requires
+line-requires c = omega (arith, decimal-length c.args.index)
+
+pub returns : goal.returns
+unfolding step_line
+returns c = put_then (omega arith) c.number-next.ensures c.line.ensures
