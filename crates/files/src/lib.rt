@@ -1,7 +1,7 @@
 // A file or an input, read whole.
 #![tactic(auto)]
 
-ghost use Rattle.std.specs.Prelude.{◌<◌, length, take, IfOk};
+ghost use Rattle.std.specs.Prelude.{◌≡◌, ◌<◌, length, take, IfOk, OnErr};
 ghost use Rattle.std.specs.Io.KnownBytes.{Consumes, IsAtEnd};
 ghost use Rattle.io.specs.Counts.{IsPrefixLen};
 
@@ -9,10 +9,11 @@ use std::fs::File;
 use std::io::{Read, Result};
 use std::rt::Files;
 
-// Reads into the front of lent bytes until they are full or the input ends, and answers how many it read.
+// Reads into the front of lent bytes until they are full or the input ends, and answers how many it read. Its errors are those of the reads.
 pub fn fill<R: Read>(input: &mut R, out: &mut [u8]) -> Result<usize>
     ensures prefix_len { IfOk result (λ n. IsPrefixLen n out.new) }
     ensures bytes { IfOk result (λ n. Consumes (R.remaining input.old) (R.remaining input.new) (take n out.new)) }
+    ensures err { OnErr result (length out.new ≡ length out.old) }
     ensures end { IfOk result (λ n. n < length out.new → IsAtEnd (R.remaining input.new)) }
 {
     let mut done = 0;
@@ -26,10 +27,15 @@ pub fn fill<R: Read>(input: &mut R, out: &mut [u8]) -> Result<usize>
     Ok(done)
 }
 
-// Reads a file into the front of lent bytes, as much as they hold, and answers how many it read: 0 where it cannot be opened.
-pub fn read(files: &impl Files, path: &str, out: &mut [u8]) -> Result<usize>
-    ensures { IfOk result (λ n. IsPrefixLen n out.new) }
+// Reads a file into the front of lent bytes, as much as they hold, and answers how many it read: 0 where it cannot be opened, as where the path
+// is not text in UTF-8.
+pub fn read(files: &impl Files, path: &[u8], out: &mut [u8]) -> Result<usize>
+    ensures prefix_len { IfOk result (λ n. IsPrefixLen n out.new) }
+    ensures err { OnErr result (length out.new ≡ length out.old) }
 {
+    let Ok(path) = str::from_utf8(path) else {
+        return Ok(0);
+    };
     let Ok(mut file) = File::open(files, path) else {
         return Ok(0);
     };

@@ -5,7 +5,7 @@ use std::io::Result;
 use std::rt::Files;
 
 // Steps through the input in a file.
-fn lesson(rt: &(impl Files + Print), path: &str) -> Result<()> {
+fn lesson(rt: &(impl Files + Print), path: &[u8]) -> Result<()> {
     let mut input = io::large_buffer();
     let n = files::read(rt, path, &mut input)?;
     let mut out = [0u8; stepper::ROOM];
@@ -14,12 +14,12 @@ fn lesson(rt: &(impl Files + Print), path: &str) -> Result<()> {
 }
 
 fn main(rt: HostRuntime) -> Result<()> {
-    lesson(&rt, "01-first-field.in")?;
-    lesson(&rt, "02-unit-alone.in")?;
-    lesson(&rt, "03-waiting-read.in")?;
-    lesson(&rt, "04-rank-alone.in")?;
-    lesson(&rt, "05-read-high-write-low.in")?;
-    lesson(&rt, "06-yes-and-no.in")?;
-    lesson(&rt, "07-allow-rule.in")?;
-    lesson(&rt, "08-full-store.in")
+    lesson(&rt, b"01-first-field.in")?;
+    lesson(&rt, b"02-unit-alone.in")?;
+    lesson(&rt, b"03-waiting-read.in")?;
+    lesson(&rt, b"04-rank-alone.in")?;
+    lesson(&rt, b"05-read-high-write-low.in")?;
+    lesson(&rt, b"06-yes-and-no.in")?;
+    lesson(&rt, b"07-allow-rule.in")?;
+    lesson(&rt, b"08-full-store.in")
 }

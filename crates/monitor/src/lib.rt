@@ -142,7 +142,7 @@ fn tried(memory: &mut [u8], starts: &mut [u16; 33], site: usize) -> Answer
     requires { (holds_net memory.old ≡ true) × (starts.old ≡ starts_held memory.old) }
     ensures value { result ≡ (step (rules_held memory.old) (state_held memory.old) site).answer }
     ensures memory_after { memory.new ≡ memory_with (rules_held memory.old) (step (rules_held memory.old) (state_held memory.old) site).after }
-    ensures starts_after { starts.new ≡ starts_held memory.new }
+    ensures starts_kept { starts.new ≡ starts_held memory.new }
 {
     let asked = asked(memory, starts, site);
     let answer = asked.answer;

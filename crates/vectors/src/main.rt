@@ -202,16 +202,16 @@ fn script(rt: &impl Print, s: &[u8]) -> Result<()> {
 }
 
 // Runs the script in a file.
-fn file(rt: &(impl Files + Print), path: &str) -> Result<()> {
+fn file(rt: &(impl Files + Print), path: &[u8]) -> Result<()> {
     let mut bytes = [0u8; 262144];
     let n = files::read(rt, path, &mut bytes)?;
     script(rt, &bytes[..n])
 }
 
 fn main(rt: HostRuntime) -> Result<()> {
-    file(&rt, "1-header")?;
-    file(&rt, "2-records")?;
-    file(&rt, "3-steps")?;
-    file(&rt, "4-memory")?;
-    file(&rt, "5-random")
+    file(&rt, b"1-header")?;
+    file(&rt, b"2-records")?;
+    file(&rt, b"3-steps")?;
+    file(&rt, b"4-memory")?;
+    file(&rt, b"5-random")
 }

@@ -1,3 +1,4 @@
+-- A turn of `lines::spaced` puts one number more, and i numbers take at most 21 i bytes. Assumes nothing.
 use Rattle.std.proofs.Common.{ℕ, ◌*◌, ◌≤◌, ◌<◌, List, length, take, refl, arith, add-one}
 use Rattle.std.proofs.Math.Seq.{take-suc, length-take-le}
 use Rattle.lines.specs.Lines.{spaced}

@@ -51,7 +51,7 @@ loop-i-preserved c =
       answers_are =
           ap (set l.answers l.i) c.number.ensures
           ∙ answers_next r s formed steps l.i inv.memory_is (omega arith) l.answers out (omega (arith, room)) inv.answers_are t.value;
-      starts_are = t.starts_after;
+      starts_are = t.starts_kept;
     }
 
 pub returns : goal.returns

@@ -15,8 +15,8 @@ pub returns-then-number-eq0-clause-value : goal.returns-then-number-eq0-clause-v
 returns-then-number-eq0-clause-value c =
     tried_answer (rules_held c.args.memory.now) (state_held c.args.memory.now) c.args.site c.asked-asked.result c.asked-asked.ensures
 
-pub returns-then-number-eq0-clause-starts_after : goal.returns-then-number-eq0-clause-starts_after
-returns-then-number-eq0-clause-starts_after c =
+pub returns-then-number-eq0-clause-starts_kept : goal.returns-then-number-eq0-clause-starts_kept
+returns-then-number-eq0-clause-starts_kept c =
     let x = c.asked-asked.result in
     c.recount.ensures
     ∙ ap (starts_after x.action.capability x.target) c.requires.1

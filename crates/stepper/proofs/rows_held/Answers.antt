@@ -1,3 +1,4 @@
+-- A turn of `stepper::rows_held` counts one row more. Assumes nothing.
 use Rattle.std.proofs.Common.{◌*◌, get_or, arith}
 use Rattle.std.proofs.Math.Seq.{take_all}
 use borrow.Author.Tests.{eq-eqb, ne_eqb}

@@ -1,3 +1,4 @@
+-- A turn of `stepper::site_lines` puts one line more, for which there is room. Assumes nothing.
 use Rattle.std.proofs.Common.{◌≡◌, ℕ, List, length, refl, sym, ◌∙◌, arith}
 use Rattle.words.proofs.Tables.{table_length, table_at}
 use Rattle.net.specs.Records.{site_width, no_site, read_site}

@@ -1,3 +1,4 @@
+-- A turn of `stepper::step_lines` puts one line more, for which there is room. Assumes nothing.
 use Rattle.std.proofs.Common.{◌≡◌, ℕ, List, length, get_or, refl, arith}
 use Rattle.lines.proofs.Texts.{lines_none, put_none}
 use Rattle.stepper.specs.Farmstep.{step_line, step_lines}

@@ -1,3 +1,4 @@
+-- A turn of `words::clear` puts one zero more; at the end all are there. Assumes nothing.
 use Rattle.std.proofs.Common.{◌-◌, ℕ, length-set, arith}
 use lib.ListN.{length-replicate, get_or-replicate}
 use Rattle.words.specs.Bytes.{blank}

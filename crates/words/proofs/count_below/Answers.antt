@@ -1,3 +1,4 @@
+-- Where the two ends of `words::count_below` meet is the first record that is not below the bound. Assumes nothing.
 use Rattle.std.proofs.Common.{◌≡◌, ◌*◌, sym, ltb, get_or, arith}
 use borrow.Author.Tests.{lt-ltb, le-ltb}
 use Rattle.words.proofs.First.{first_is}

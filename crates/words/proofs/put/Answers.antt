@@ -1,3 +1,4 @@
+-- A turn of `words::put` puts one byte more; at the end all of b is there. Assumes nothing.
 use Rattle.std.proofs.Common.{refl, length-set, arith}
 use Rattle.words.proofs.Shifts.{copy_turn, copy_done}
 use Rattle.words.proofs.put.Goals as goal

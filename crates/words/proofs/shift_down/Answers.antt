@@ -1,3 +1,4 @@
+-- A turn of `words::shift_down` moves one byte more, from the front on. Assumes nothing.
 use Rattle.std.proofs.Common.{◌∙◌, ◌+◌, length-set, arith}
 use Rattle.words.proofs.Shifts.{down_turn, lowered_done}
 use Rattle.words.proofs.shift_down.Goals as goal

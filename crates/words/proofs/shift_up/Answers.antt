@@ -1,3 +1,4 @@
+-- A turn of `words::shift_up` moves one byte more, from the end back. Assumes nothing.
 use Rattle.std.proofs.Common.{◌≡◌, ◌+◌, ◌-◌, refl, length-set, arith}
 use Rattle.words.proofs.Shifts.{up_turn, raised_none}
 use Rattle.words.proofs.shift_up.Goals as goal

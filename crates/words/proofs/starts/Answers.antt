@@ -1,3 +1,4 @@
+-- A turn of `words::starts` passes a record or writes a start; at the end all 33 are written. Assumes nothing.
 use Rattle.std.proofs.Common.{◌≡◌, ◌∙◌, sym, ◌/◌, ◌*◌, ltb, length, get_or, length-set, arith}
 use borrow.Author.Tests.{lt-ltb}
 use Rattle.words.specs.Bytes.{blank}

@@ -1,3 +1,4 @@
+-- A turn of `words::starts_more` changes one start more; at the end all past the owner are changed. Assumes nothing.
 use Rattle.std.proofs.Common.{◌∙◌, ℕ, ◌+◌, length-set, arith}
 use Rattle.words.proofs.Over.{change_none, change_turn, change_done, more_changed}
 use Rattle.words.proofs.starts_more.Goals as goal

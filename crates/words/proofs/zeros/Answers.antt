@@ -1,3 +1,4 @@
+-- A turn of `words::zeros` sees one byte more of each half; at the end what was seen decides. Assumes nothing.
 use Rattle.std.proofs.Common.{◌∙◌, ap, ℕ, ◌/◌, nat_eq, length, arith}
 use Rattle.words.proofs.Shifts.{seen_none, seen_more, seen_all, seen_last}
 use Rattle.words.proofs.zeros.Goals as goal

@@ -1,3 +1,4 @@
+-- A turn of `rulebook::first_bad_node` at a good node lengthens the row by its depth; a bad node is the first. Assumes nothing.
 use Rattle.std.proofs.Common.{arith, ◌≡◌, refl, sym, ◌∙◌, length}
 use lib.ListN.{length-set}
 use lib.Seq.{length-take-le}
