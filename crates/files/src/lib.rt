@@ -1,7 +1,7 @@
 // A file or an input, read whole.
 #![tactic(auto)]
 
-ghost use Rattle.std.specs.Prelude.{◌≡◌, ◌<◌, length, take, IfOk, OnErr};
+ghost use Rattle.std.specs.Prelude.{◌≡◌, ℕ, ◌<◌, ◌≤◌, length, take, IfOk, OnErr};
 ghost use Rattle.std.specs.Io.KnownBytes.{Consumes, IsAtEnd};
 ghost use Rattle.io.specs.Counts.{IsPrefixLen};
 
@@ -9,12 +9,14 @@ use std::fs::File;
 use std::io::{Read, Result};
 use std::rt::Files;
 
-// Reads into the front of lent bytes until they are full or the input ends, and answers how many it read. Its errors are those of the reads.
+// Reads into the front of lent bytes until they are full or the input ends, and answers how many it read. Its errors are those of the reads; after
+// one, what the input gave up to it stands at the front.
 pub fn fill<R: Read>(input: &mut R, out: &mut [u8]) -> Result<usize>
     ensures prefix_len { IfOk result (λ n. IsPrefixLen n out.new) }
     ensures bytes { IfOk result (λ n. Consumes (R.remaining input.old) (R.remaining input.new) (take n out.new)) }
-    ensures err { OnErr result (length out.new ≡ length out.old) }
     ensures end { IfOk result (λ n. n < length out.new → IsAtEnd (R.remaining input.new)) }
+    ensures none_lost { OnErr result
+        ((k : ℕ) × (k ≤ length out.new) × Consumes (R.remaining input.old) (R.remaining input.new) (take k out.new)) }
 {
     let mut done = 0;
     while done < out.len() {
@@ -28,7 +30,7 @@ pub fn fill<R: Read>(input: &mut R, out: &mut [u8]) -> Result<usize>
 }
 
 // Reads a file into the front of lent bytes, as much as they hold, and answers how many it read: 0 where it cannot be opened, as where the path
-// is not text in UTF-8.
+// is not text in UTF-8. Its errors are those of the reads; after one, the file is closed and the front of the bytes may have been written.
 pub fn read(files: &impl Files, path: &[u8], out: &mut [u8]) -> Result<usize>
     ensures prefix_len { IfOk result (λ n. IsPrefixLen n out.new) }
     ensures err { OnErr result (length out.new ≡ length out.old) }
