@@ -1,1 +1,2 @@
 pub mod Belnap
+pub mod Operator

@@ -4,6 +4,28 @@
 
 ghost use Rattle.std.specs.Prelude.{◌≡◌, ◌<◌};
 ghost use Rattle.belnap.specs.Belnap.{grants, not_of, operate_of, settles};
+ghost use Rattle.belnap.specs.Operator.{place};
+
+// The codes of the four values. They stay numbers, as docs/DECISIONS.md has them: `settles` and `grants` answer for every u8, and an enum
+// would take only four of them.
+pub const UNDECIDED: u8 = 0;
+
+pub const YES: u8 = 1;
+
+pub const NO: u8 = 2;
+
+pub const CONFLICT: u8 = 3;
+
+// The two-place operators, in the order of the node kinds 19 to 24.
+#[derive(Clone, Copy, PartialEq, Eq, Debug)]
+pub enum Operator {
+    And,
+    Or,
+    Consensus,
+    Gather,
+    Implies,
+    Before,
+}
 
 // Each a table of p (down) and q (across).
 const AND: [[u8; 4]; 4] = [[0, 0, 2, 2], [0, 1, 2, 3], [2, 2, 2, 2], [2, 3, 2, 3]];
@@ -18,37 +40,36 @@ const IMPLIES: [[u8; 4]; 4] = [[0, 1, 2, 3], [0, 1, 2, 3], [1, 1, 1, 1], [1, 1, 
 
 const BEFORE: [[u8; 4]; 4] = [[0, 1, 2, 3], [1, 1, 1, 1], [2, 2, 2, 2], [3, 3, 3, 3]];
 
-// The operator numbered op, from 0 and in the order of the node kinds 19 to 24, of two values.
+// The operator of two values.
 #[tactic(auto, using(crate::proofs::Tables::built), unfolding(crate::specs::Belnap::operate_of))]
-pub fn operate(op: u8, p: u8, q: u8) -> u8
-    requires { (op < 6) × (p < 4) × (q < 4) }
-    ensures { (result ≡ operate_of op p q) × (result < 4) }
+pub fn operate(op: Operator, p: u8, q: u8) -> u8
+    requires { (p < 4) × (q < 4) }
+    ensures { (result ≡ operate_of (place op) p q) × (result < 4) }
 {
-    let i = p as usize;
-    let j = q as usize;
+    let i = usize::from(p);
+    let j = usize::from(q);
     match op {
-        0 => AND[i][j],
-        1 => OR[i][j],
-        2 => CONSENSUS[i][j],
-        3 => GATHER[i][j],
-        4 => IMPLIES[i][j],
-        _ => BEFORE[i][j],
+        Operator::And => AND[i][j],
+        Operator::Or => OR[i][j],
+        Operator::Consensus => CONSENSUS[i][j],
+        Operator::Gather => GATHER[i][j],
+        Operator::Implies => IMPLIES[i][j],
+        Operator::Before => BEFORE[i][j],
     }
 }
 
 // Whether the first value decides the operator, whatever the second is.
 #[tactic(auto, unfolding(crate::specs::Belnap::settles))]
-pub fn settles(op: u8, p: u8) -> bool
-    requires { op < 6 }
-    ensures { result ≡ settles op p }
+pub fn settles(op: Operator, p: u8) -> bool
+    ensures { result ≡ settles (place op) p }
 {
     match op {
-        0 => p == 2,
-        1 => p == 1,
-        2 => p == 0,
-        3 => p == 3,
-        4 => 2 <= p,
-        _ => p != 0,
+        Operator::And => p == NO,
+        Operator::Or => p == YES,
+        Operator::Consensus => p == UNDECIDED,
+        Operator::Gather => p == CONFLICT,
+        Operator::Implies => NO <= p,
+        Operator::Before => p != UNDECIDED,
     }
 }
 
@@ -64,5 +85,5 @@ pub fn not(p: u8) -> u8
 pub fn grants(p: u8) -> bool
     ensures { result ≡ grants p }
 {
-    p < 2
+    p < NO
 }

@@ -1,4 +1,5 @@
 -- What is packed is small: a saved image fits in memory, and a part lies in an accepted image, whose directory can be read. Assumes nothing.
+use Rattle.std.specs.Prelude.{Ok, Err}
 use mathlib.Core.Path.{◌≡◌, refl}
 use mathlib.Core.Bool.{Bool, true, false, cond, ◌&&◌}
 use mathlib.Core.List.{List, []}
@@ -6,14 +7,13 @@ use Prim.Native.Nat.{ℕ, ◌+◌, ◌*◌, ◌≤◌, ◌<◌}
 use native.Mathlib.Omega.{arith}
 use lib.Dec.{ltb, leb}
 use lib.ListN.{length, drop, length-take, length-drop}
-use borrow.Author.Tests.{lt-leb, ne_eqb}
+use borrow.Author.Tests.{lt-leb, leb-true, ne_eqb}
 use Rattle.net.specs.Image.{end_in, body_in, length_in, offset_in}
 use Rattle.net.proofs.Bodies.{least_length, most_length_lem}
 use Rattle.format.specs.Verdict.{is_accepted, verdict_of, handed_out, body_of}
-use Rattle.format.specs.declared.Verdict.TheVariants.{Accepted}
 use Rattle.format.proofs.Verdicts.{accepted_right}
 use Rattle.monitor.specs.Memory.{holds_net, save_answer, saved_length}
-use Rattle.monitor.specs.declared.Saved.TheVariants.{Whole, Room, NoNet}
+use Rattle.monitor.specs.declared.SaveError.TheVariants.{Room, NoNet}
 use Rattle.monitor.proofs.Holding.{holds_parts, is_accepted_lem}
 use Rattle.capi.specs.Packed.{packed_body}
 
@@ -21,7 +21,7 @@ pub saved_small : (m : List ℕ) (room : ℕ) → saved_length (save_answer m ro
 unfolding save_answer
 saved_small m room = pick (holds_net m) (ltb room (end_in m)) refl
   where
-    pick : (b t : Bool) → holds_net m ≡ b → saved_length (cond b (cond t Room (Whole (end_in m))) NoNet) ≤ 65536
+    pick : (b t : Bool) → holds_net m ≡ b → saved_length (cond b (cond t (Err Room) (Ok (end_in m))) (Err NoNet)) ≤ 65536
     pick true true e = omega arith
     pick true false e = (holds_parts m e).fits
     pick false t e = omega arith
@@ -30,26 +30,29 @@ saved_small m room = pick (holds_net m) (ltb room (end_in m)) refl
 module _ (s : List ℕ) (kind : ℕ) where
   pub record Part (n : ℕ) : Type 0 where
     pub readable : 44 ≤ length s
+    pub known : kind ≤ 5
     pub short : n ≤ 51244
 
-  accepted_part : verdict_of s ≡ Accepted → Part (length (body_in s kind))
+  accepted_part : verdict_of s ≡ Ok tt → kind ≤ 5 → Part (length (body_in s kind))
   unfolding body_in
-  accepted_part e =
+  accepted_part e h =
       let c = (accepted_right s e).contents in
       let l = least_length s c in
       let m = most_length_lem s c in
       let t = length-take (length_in s kind) (drop (offset_in s kind) s) in
       let d = length-drop (offset_in s kind) s in
-      record { readable = l; short = omega arith }
+      record { readable = l; known = h; short = omega arith }
 
   pub part_of : (length (body_of s kind) ≡ 0 → ⊥) → Part (length (body_of s kind))
   unfolding body_of handed_out
-  part_of n = pick (is_accepted (verdict_of s)) (leb 1 kind && leb kind 5) refl n
+  part_of n = pick (is_accepted (verdict_of s)) (leb 1 kind) (leb kind 5) refl refl n
     where
-      pick : (a k : Bool) → is_accepted (verdict_of s) ≡ a → (length (cond (a && k) (body_in s kind) []) ≡ 0 → ⊥) → Part (length (cond (a && k) (body_in s kind) []))
-      pick true true e q = accepted_part (is_accepted_lem (verdict_of s) e)
-      pick true false e q = absurd (q refl)
-      pick false k e q = absurd (q refl)
+      pick : (a b k : Bool) → is_accepted (verdict_of s) ≡ a → leb kind 5 ≡ k → (length (cond (a && (b && k)) (body_in s kind) []) ≡ 0 → ⊥)
+          → Part (length (cond (a && (b && k)) (body_in s kind) []))
+      pick true true true e f q = accepted_part (is_accepted_lem (verdict_of s) e) (leb-true kind 5 f)
+      pick true true false e f q = absurd (q refl)
+      pick true false k e f q = absurd (q refl)
+      pick false b k e f q = absurd (q refl)
 
   -- past the fifth kind there is no part
   no_kind : 5 < kind → length (body_of s kind) ≡ 0

@@ -1,17 +1,17 @@
 -- What the exported calls return: the answers of the public calls, packed into one number. Assumes nothing.
-use Rattle.std.specs.Prelude.{ℕ, ◌+◌, ◌*◌, cond, List, eqb, length}
+use Rattle.std.specs.Prelude.{ℕ, ◌+◌, ◌*◌, cond, List, eqb, length, Result}
 use Rattle.net.specs.Image.{offset_in}
 use Rattle.format.specs.Verdict.{number_of, record_of, body_of}
-use Rattle.format.specs.declared.Verdict.{Verdict}
+use Rattle.format.specs.declared.Refusal.{Refusal}
 use Rattle.monitor.specs.Memory.{saved_number, saved_length}
-use Rattle.monitor.specs.declared.Saved.{Saved}
+use Rattle.monitor.specs.declared.SaveError.{SaveError}
 
 -- number + 256 · record
-abbrev pub packed_verdict : Verdict → ℕ
+abbrev pub packed_verdict : Result Unit Refusal → ℕ
 packed_verdict v = number_of v + 256 * record_of v
 
 -- number + 256 · length
-abbrev pub packed_saved : Saved → ℕ
+abbrev pub packed_saved : Result ℕ SaveError → ℕ
 packed_saved v = saved_number v + 256 * saved_length v
 
 -- start + 2^32 · length, and 0 for the empty part

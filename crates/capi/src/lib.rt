@@ -9,37 +9,37 @@ ghost use Rattle.monitor.specs.Memory.{load_answer, load_memory, save_answer, sa
 ghost use Rattle.capi.specs.Packed.{packed_verdict, packed_saved, packed_body};
 
 use format::Verdict;
-use monitor::{Ran, Saved};
+use monitor::{RunError, SaveError};
 
 // The number of a verdict and 256 times its record.
 fn packed(v: Verdict) -> u32
     ensures { result ≡ packed_verdict v }
 {
-    let number = format::number(v) as u32;
-    let record = format::record(v) as u32;
+    let number = u32::from(format::number(v));
+    let record = u32::from(format::record(v));
     number + 256 * record
 }
 
 // The number of what saving answers and 256 times the length.
-fn packed_saved(v: Saved) -> u64
+fn packed_saved(v: Result<usize, SaveError>) -> u64
     requires { saved_length v ≤ 65536 }
     ensures { result ≡ packed_saved v }
 {
     match v {
-        Saved::Whole(n) => 256 * (n as u64),
-        Saved::NoNet => 6,
-        Saved::Room => 20,
+        Ok(n) => 256 * (n as u64),
+        Err(SaveError::NoNet) => 6,
+        Err(SaveError::Room) => 20,
     }
 }
 
 // The number of what running answers.
-fn ran_number(v: Ran) -> u32
+fn ran_number(v: Result<(), RunError>) -> u32
     ensures { result ≡ ran_number v }
 {
     match v {
-        Ran::Through => 0,
-        Ran::Long => 7,
-        Ran::NoNet => 6,
+        Ok(()) => 0,
+        Err(RunError::Long) => 7,
+        Err(RunError::NoNet) => 6,
     }
 }
 
@@ -75,8 +75,7 @@ pub extern "C" fn boardmarten_step(memory: &mut [u8], site: u64) -> u32
     ensures value { result ≡ number_of (step_answer memory.old site) }
     ensures memory_after { memory.new ≡ step_memory memory.old site }
 {
-    let answer = monitor::step(memory, site as usize);
-    stepping::number(answer) as u32
+    u32::from(u8::from(monitor::step(memory, site as usize)))
 }
 
 // Does steps in order; each byte of steps is a site number.
@@ -94,13 +93,13 @@ pub extern "C" fn boardmarten_run(memory: &mut [u8], steps: &[u8], answers: &mut
 pub extern "C" fn boardmarten_body(image: &[u8], kind: u32) -> u64
     ensures { result ≡ packed_body image.now kind }
 {
-    if 5 < kind {
+    let Ok(kind) = u16::try_from(kind) else {
+        return 0;
+    };
+    let part = monitor::body(image, kind);
+    if part.is_empty() {
         return 0;
     }
-    let part = monitor::body(image, kind as u16);
-    if part.len() == 0 {
-        return 0;
-    }
-    let start = words::long_at(image, 8 * (kind as usize));
+    let start = words::long_at(image, 8 * usize::from(kind));
     (start as u64) + 4294967296 * (part.len() as u64)
 }

@@ -10,7 +10,8 @@ use std::io::{Read, Result};
 use std::rt::Files;
 
 // Reads into the front of lent bytes until they are full or the input ends, and answers how many it read. Its errors are those of the reads; after
-// one, what the input gave up to it stands at the front.
+// one, what the input gave up to it stands at the front. It reads in a loop of its own, since no method of the library's `Read` stops both at full
+// bytes and at the input's end and says how many it read: `read_exact` does not say, and `read_to_end` fills a `Vec`.
 pub fn fill<R: Read>(input: &mut R, out: &mut [u8]) -> Result<usize>
     ensures prefix_len { IfOk result (λ n. IsPrefixLen n out.new) }
     ensures bytes { IfOk result (λ n. Consumes (R.remaining input.old) (R.remaining input.new) (take n out.new)) }

@@ -1,34 +1,35 @@
--- Four fields, of which the first n are used: one test for those, another for the rest, looked at one by one. Assumes nothing.
-use mathlib.Core.Path.{◌≡◌, sym, ap, ◌∙◌}
-use mathlib.Core.Bool.{Bool, cond, ◌&&◌, and-true, and_assoc}
+-- Fields of which the first n are used, that is not 0, and the others 0, looked at one by one together with their numbers. Assumes nothing.
+use Rattle.std.specs.List.{list_all, enumerate_from}
+use mathlib.Core.Path.{◌≡◌, refl}
+use mathlib.Core.Bool.{Bool, true, false, not, beq, and_assoc}
 use mathlib.Core.List.{List, [], ◌∷◌}
-use Prim.Native.Nat.{ℕ, zero, suc}
+use Prim.Native.Nat.{ℕ, zero, suc, ◌+◌, ◌≤◌}
 use native.Mathlib.Omega.{arith}
-use lib.Dec.{ltb}
-use lib.ListN.{length, get_or, take, drop}
-use lib.Seq.{take-nil, drop-nil}
-use borrow.Author.Tests.{lt-ltb}
-use Rattle.words.specs.Lists.{all_of, all}
-use Rattle.words.proofs.Numbers.{written}
+use lib.Dec.{ltb, eqb}
+use borrow.Author.Tests.{lt-ltb, le-ltb, ne_eqb}
+use Rattle.words.specs.Lists.{all}
+use Rattle.format.specs.Format.{fields_ok}
 
-module _ {A : Type 0} (p q : A → Bool) where
-  abbrev pub each : ℕ → ℕ → A → Bool
-  each n j x = cond (ltb j n) (p x) (q x)
+-- field j of value v, where the first m are used
+abbrev pub used_right : ℕ → ℕ × ℕ → Bool
+used_right m p = beq (not (eqb p.1 0)) (ltb p.0 m)
 
-  four : (n : ℕ) (a b c d : A)
-      → (all p (take n (a ∷ b ∷ c ∷ d ∷ [])) && all q (drop n (a ∷ b ∷ c ∷ d ∷ []))) ≡ (each n 0 a && (each n 1 b && (each n 2 c && each n 3 d)))
-  four zero a b c d = simp and-true
-  four (suc zero) a b c d = simp and-true
-  four (suc (suc zero)) a b c d = simp (and-true, and_assoc)
-  four (suc (suc (suc zero))) a b c d = simp (and-true, and_assoc)
-  four (suc (suc (suc (suc n)))) a b c d =
-      let m = suc (suc (suc (suc n))) in
-      simp (take-nil {A = A} n, drop-nil {A = A} n, lt-ltb 0 m (omega arith), lt-ltb 1 m (omega arith), lt-ltb 2 m (omega arith), lt-ltb 3 m (omega arith), and-true)
+used : (b : Bool) → beq (not b) true ≡ not b
+used true = refl
+used false = refl
 
-  -- the tests of a list of four
-  abbrev pub four_rules : A → ℕ → List A → List Bool
-  four_rules d n l = each n 0 (get_or l 0 d) ∷ each n 1 (get_or l 1 d) ∷ each n 2 (get_or l 2 d) ∷ each n 3 (get_or l 3 d) ∷ []
+not_used : (v : ℕ) → beq (not (eqb v 0)) false ≡ eqb 0 v
+not_used zero = refl
+not_used (suc v) = rw (ne_eqb (suc v) 0 (λ z. omega arith), ne_eqb 0 (suc v) (λ z. omega arith))
 
-  pub four_rules_lem : (d : A) (n : ℕ) (l : List A) → length l ≡ 4 → all_of (four_rules d n l) ≡ (all p (take n l) && all q (drop n l))
-  four_rules_lem d n l e =
-      sym (four n (get_or l 0 d) (get_or l 1 d) (get_or l 2 d) (get_or l 3 d)) ∙ ap (λ (m : List A). all p (take n m) && all q (drop n m)) (written d 4 l e)
+rest : (m k : ℕ) (l : List ℕ) → m ≤ k → list_all (used_right m) (enumerate_from k l) ≡ all (eqb 0) l
+rest m k [] h = refl
+rest m k (v ∷ l) h = rw (le-ltb k m h, not_used v, rest m (k + 1) l (omega arith))
+
+from : (n m k : ℕ) (l : List ℕ) → m ≡ k + n → list_all (used_right m) (enumerate_from k l) ≡ fields_ok n l
+from zero m k l e = rest m k l (omega arith)
+from (suc n) m k [] e = refl
+from (suc n) m k (v ∷ l) e = rw (lt-ltb k m (omega arith), used (eqb v 0), from n m (k + 1) l (omega arith), and_assoc)
+
+pub fields_numbered : (n : ℕ) (l : List ℕ) → list_all (used_right n) (enumerate_from 0 l) ≡ fields_ok n l
+fields_numbered n l = from n n 0 l (omega arith)

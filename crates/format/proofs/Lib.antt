@@ -1,9 +1,10 @@
-pub mod Eight
+pub mod Numbered
 pub mod Masks
 pub mod Binding
 pub mod Programs
 pub mod Parts
 pub mod Order
+pub mod Searches
 pub mod Earlier
 pub mod Fields
 pub mod Verdicts

@@ -1,5 +1,6 @@
 -- The names of good sites rise, and the owners of good aspects, actions and rows never fall, in the list and in the first bytes of the
 -- records. Assumes nothing.
+use Rattle.std.specs.Prelude.{Ok}
 use mathlib.Core.Path.{◌≡◌, refl}
 use mathlib.Core.List.{List}
 use Prim.Native.Nat.{ℕ, suc, ◌<◌}
@@ -22,7 +23,6 @@ use Rattle.net.specs.declared.Row.{Row}
 use Rattle.rulebook.specs.Rulebook.{aspect_rules, aspect_ok}
 use Rattle.format.specs.Format.{site_rules, site_ok, action_rules, action_ok, row_rules, row_ok}
 use Rattle.format.specs.Verdict.{verdict_of}
-use Rattle.format.specs.declared.Verdict.TheVariants.{Accepted}
 use Rattle.format.proofs.Order.{sorted_owners}
 use Rattle.format.proofs.Verdicts.{accepted_right}
 
@@ -68,7 +68,7 @@ unfolding read_row
 rows_ordered = bytes_sorted (λ x. x.owner) no_row read_row (λ s i. refl) row_width
 
 -- ---- of an accepted image
-module _ (b : List ℕ) (e : verdict_of b ≡ Accepted) where
+module _ (b : List ℕ) (e : verdict_of b ≡ Ok tt) where
   pub accepted_names : Rising (names (sites_in (body_in b 1)))
   accepted_names = names_rise _ (accepted_right b e).records.sites
 

@@ -1,5 +1,6 @@
 -- An image is accepted exactly if it is the image of a well-formed net, and that net is the net of the image and no other: each part of the
 -- verdict is a rule of the net, and what fits its place in an image is read back. Assumes nothing.
+use Rattle.std.specs.Prelude.{Result, Ok, Err}
 use mathlib.Core.Path.{◌≡◌, refl, sym, ap, subst, ◌∙◌}
 use mathlib.Core.Bool.{Bool, true, false, cond}
 use mathlib.Core.List.{List}
@@ -18,8 +19,8 @@ use Rattle.net.proofs.Images.{Fits, contents_of_image, edition_of_image, least_i
 use Rattle.rulebook.specs.Rulebook.{node_ok, aspect_ok}
 use Rattle.format.specs.Format.{site_ok, action_ok, row_ok, state_ok, count_rules, shape_rules, net_rules, well_formed}
 use Rattle.format.specs.Verdict.{is_accepted, bad_site, bad_node, bad_aspect, bad_action, bad_row, bad_state, records_verdict, least_size, most_size, size_ok, verdict_of}
-use Rattle.format.specs.declared.Verdict.{Verdict}
-use Rattle.format.specs.declared.Verdict.TheVariants.{Accepted, Size, Edition, Contents, BadSite, BadNode, BadAspect, BadAction, BadRow, BadState, Small}
+use Rattle.format.specs.declared.Refusal.{Refusal}
+use Rattle.format.specs.declared.Refusal.TheVariants.{Size, Edition, Contents, BadSite, BadNode, BadAspect, BadAction, BadRow, BadState, Small}
 
 -- ---- no record is bad
 pub none_bad : (ok : ℕ → Bool) (n : ℕ) → T (every ok n) → ltb (first_bad ok n) n ≡ false
@@ -29,9 +30,9 @@ pub bad_none : (ok : ℕ → Bool) (n : ℕ) → ltb (first_bad ok n) n ≡ fals
 bad_none ok n e = is_T (every ok n) (eq-eqb (first_bad ok n) n (omega (arith, ltb-false (first_bad ok n) n e, first_le ok n)))
 
 -- a test that refuses, passed
-passed : (b : Bool) (v w : Verdict) → (v ≡ Accepted → ⊥) → cond b v w ≡ Accepted → (b ≡ false) × (w ≡ Accepted)
-passed true v w f e = absurd (f e)
-passed false v w f e = (refl, e)
+passed : (b : Bool) (v : Refusal) (w : Result Unit Refusal) → cond b (Err v) w ≡ Ok tt → (b ≡ false) × (w ≡ Ok tt)
+passed true v w e = no (cc)
+passed false v w e = (refl, e)
 
 module _ (s : State) (r : Rules) where
   -- every record is good
@@ -43,7 +44,7 @@ module _ (s : State) (r : Rules) where
     pub rows : T (every (row_ok (length s.sites) s.rows) (length s.rows))
     pub states : T (every (state_ok s.actions s.sites) (length s.sites))
 
-  pub good_accepted : Good → records_verdict s r ≡ Accepted
+  pub good_accepted : Good → records_verdict s r ≡ Ok tt
   unfolding records_verdict
   good_accepted g =
       rw (
@@ -55,15 +56,15 @@ module _ (s : State) (r : Rules) where
         none_bad (state_ok s.actions s.sites) (length s.sites) g.states,
       )
 
-  pub accepted_good : records_verdict s r ≡ Accepted → Good
+  pub accepted_good : records_verdict s r ≡ Ok tt → Good
   unfolding records_verdict
   accepted_good e =
-      let p₁ = passed (ltb (bad_site s) (length s.sites)) (BadSite (bad_site s)) _ (λ q. no (cc)) e in
-      let p₂ = passed (ltb (bad_node s r) (length r.nodes)) (BadNode (bad_node s r)) _ (λ q. no (cc)) p₁.1 in
-      let p₃ = passed (ltb (bad_aspect s r) (length r.aspects)) (BadAspect (bad_aspect s r)) _ (λ q. no (cc)) p₂.1 in
-      let p₄ = passed (ltb (bad_action s) (length s.actions)) (BadAction (bad_action s)) _ (λ q. no (cc)) p₃.1 in
-      let p₅ = passed (ltb (bad_row s) (length s.rows)) (BadRow (bad_row s)) _ (λ q. no (cc)) p₄.1 in
-      let p₆ = passed (ltb (bad_state s) (length s.sites)) (BadState (bad_state s)) _ (λ q. no (cc)) p₅.1 in
+      let p₁ = passed (ltb (bad_site s) (length s.sites)) (BadSite (bad_site s)) _ e in
+      let p₂ = passed (ltb (bad_node s r) (length r.nodes)) (BadNode (bad_node s r)) _ p₁.1 in
+      let p₃ = passed (ltb (bad_aspect s r) (length r.aspects)) (BadAspect (bad_aspect s r)) _ p₂.1 in
+      let p₄ = passed (ltb (bad_action s) (length s.actions)) (BadAction (bad_action s)) _ p₃.1 in
+      let p₅ = passed (ltb (bad_row s) (length s.rows)) (BadRow (bad_row s)) _ p₄.1 in
+      let p₆ = passed (ltb (bad_state s) (length s.sites)) (BadState (bad_state s)) _ p₅.1 in
       record {
         sites = bad_none (site_ok s.sites) (length s.sites) p₁.0;
         nodes = bad_none (node_ok (names s.sites) r.nodes) (length r.nodes) p₂.0;
@@ -131,18 +132,18 @@ module _ (n : Net) where
       also g.states)
 
 -- ---- the number 0 is that of acceptance alone
-pub accepts : (v : Verdict) → is_accepted v ≡ true → v ≡ Accepted
-accepts Accepted e = refl
-accepts Size e = no (cc)
-accepts Edition e = no (cc)
-accepts Contents e = no (cc)
-accepts (BadSite k) e = no (cc)
-accepts (BadNode k) e = no (cc)
-accepts (BadAspect k) e = no (cc)
-accepts (BadAction k) e = no (cc)
-accepts (BadRow k) e = no (cc)
-accepts (BadState k) e = no (cc)
-accepts Small e = no (cc)
+pub accepts : (v : Result Unit Refusal) → is_accepted v ≡ true → v ≡ Ok tt
+accepts (Ok x) e = refl
+accepts (Err Size) e = no (cc)
+accepts (Err Edition) e = no (cc)
+accepts (Err Contents) e = no (cc)
+accepts (Err (BadSite k)) e = no (cc)
+accepts (Err (BadNode k)) e = no (cc)
+accepts (Err (BadAspect k)) e = no (cc)
+accepts (Err (BadAction k)) e = no (cc)
+accepts (Err (BadRow k)) e = no (cc)
+accepts (Err (BadState k)) e = no (cc)
+accepts (Err Small) e = no (cc)
 
 -- ---- an image is accepted exactly if its size, its edition and its contents are right and every record is good
 module _ (b : List ℕ) where
@@ -152,24 +153,24 @@ module _ (b : List ℕ) where
     pub contents : contents_ok b ≡ true
     pub records : Good (state_in b) (rules_in b)
 
-  chosen : (t : Bool) (v w : Verdict) → (w ≡ Accepted → ⊥) → cond t v w ≡ Accepted → (t ≡ true) × (v ≡ Accepted)
-  chosen true v w f e = (refl, e)
-  chosen false v w f e = absurd (f e)
+  chosen : (t : Bool) (v : Result Unit Refusal) (w : Refusal) → cond t v (Err w) ≡ Ok tt → (t ≡ true) × (v ≡ Ok tt)
+  chosen true v w e = (refl, e)
+  chosen false v w e = no (cc)
 
-  pub accepted_right : verdict_of b ≡ Accepted → Right
+  pub accepted_right : verdict_of b ≡ Ok tt → Right
   unfolding verdict_of
   accepted_right e =
-      let p₁ = chosen (size_ok b) _ Size (λ q. no (cc)) e in
-      let p₂ = chosen (eqb (u16_at b 0) 1) _ Edition (λ q. no (cc)) p₁.1 in
-      let p₃ = chosen (contents_ok b) _ Contents (λ q. no (cc)) p₂.1 in
+      let p₁ = chosen (size_ok b) _ Size e in
+      let p₂ = chosen (eqb (u16_at b 0) 1) _ Edition p₁.1 in
+      let p₃ = chosen (contents_ok b) _ Contents p₂.1 in
       record { size = p₁.0; edition = eqb-true (u16_at b 0) 1 p₂.0; contents = p₃.0; records = accepted_good (state_in b) (rules_in b) p₃.1 }
 
-  pub right_accepted : Right → verdict_of b ≡ Accepted
+  pub right_accepted : Right → verdict_of b ≡ Ok tt
   unfolding verdict_of
   right_accepted g = rw (g.size, eq-eqb (u16_at b 0) 1 g.edition, g.contents) (good_accepted (state_in b) (rules_in b) g.records)
 
   -- an accepted image is the image of its net, which is well formed
-  pub accepted_image : Bytes b → verdict_of b ≡ Accepted → T (well_formed (net_of b)) × (image_of (net_of b) ≡ b)
+  pub accepted_image : Bytes b → verdict_of b ≡ Ok tt → T (well_formed (net_of b)) × (image_of (net_of b) ≡ b)
   accepted_image h e =
       let g = accepted_right e in
       (good_formed (net_of b) (fits_of_image b h g.contents) g.records, image_of_net b h g.contents g.edition)
@@ -185,7 +186,7 @@ module _ (n : Net) (t : T (well_formed n)) where
   pub net_of_formed : net_of (image_of n) ≡ n
   net_of_formed = net_of_image n (formed_fits n t)
 
-  pub image_accepted : verdict_of (image_of n) ≡ Accepted
+  pub image_accepted : verdict_of (image_of n) ≡ Ok tt
   image_accepted =
       let f = formed_fits n t in
       right_accepted (image_of n) (record {

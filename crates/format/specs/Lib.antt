@@ -1,3 +1,4 @@
+pub mod Kinds
 pub mod Format
 pub mod Verdict
 pub mod Steps

@@ -1,7 +1,7 @@
 -- How the code goes through the rules, for its contracts: it keeps variables as sets, a bit for each of the eight, where the rule
 -- `variable_ok` speaks of each variable by itself, and gives the last part of the verdict by itself. Theorems say that all this comes to the
 -- rules of `Format` and `Verdict`. Assumes nothing.
-use Rattle.std.specs.Prelude.{ℕ, ◌/◌, ◌%◌, ◌^◌, ◌<◌, ◌≡◌, Bool, true, false, cond, not, ◌&&◌, List, [], ◌∷◌, ltb, eqb, length, get_or}
+use Rattle.std.specs.Prelude.{ℕ, ◌/◌, ◌%◌, ◌^◌, ◌<◌, ◌≡◌, Bool, true, false, cond, not, ◌&&◌, List, [], ◌∷◌, ltb, eqb, length, get_or, Result, Ok, Err}
 use Rattle.std.specs.Int.Bits.{bit_and, bit_or}
 use Rattle.net.specs.declared.Operand.{Operand}
 use Rattle.net.specs.declared.Action.{Action}
@@ -9,8 +9,8 @@ use Rattle.rulebook.specs.Parts.{tags_of, operand_ok, operands_ok, count_ok, cap
 use Rattle.net.specs.Records.{no_operand}
 use Rattle.net.specs.Net.{State, fields_of}
 use Rattle.format.specs.Verdict.{bad_action, bad_row, bad_state}
-use Rattle.format.specs.declared.Verdict.{Verdict}
-use Rattle.format.specs.declared.Verdict.TheVariants.{Accepted, BadAction, BadRow, BadState}
+use Rattle.format.specs.declared.Refusal.{Refusal}
+use Rattle.format.specs.declared.Refusal.TheVariants.{BadAction, BadRow, BadState}
 
 -- ---- sets of the eight variables, a bit for each
 abbrev pub in_set : ℕ → ℕ → Bool
@@ -63,9 +63,9 @@ form_rules bound x =
     ∷ []
 
 -- ---- 16 to 18: the part of the verdict that turns on actions, rows and the state
-unfoldable pub state_verdict : State → Verdict
+unfoldable pub state_verdict : State → Result Unit Refusal
 state_verdict s =
-    cond (ltb (bad_action s) (length s.actions)) (BadAction (bad_action s))
-    (cond (ltb (bad_row s) (length s.rows)) (BadRow (bad_row s))
-    (cond (ltb (bad_state s) (length s.sites)) (BadState (bad_state s))
-    Accepted))
+    cond (ltb (bad_action s) (length s.actions)) (Err (BadAction (bad_action s)))
+    (cond (ltb (bad_row s) (length s.rows)) (Err (BadRow (bad_row s)))
+    (cond (ltb (bad_state s) (length s.sites)) (Err (BadState (bad_state s)))
+    (Ok tt)))

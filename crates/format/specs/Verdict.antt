@@ -1,5 +1,5 @@
 -- What check answers of an image: in the paper's order, the first refusal that applies; and the body that is handed out. Assumes nothing.
-use Rattle.std.specs.Prelude.{ℕ, ◌+◌, ◌*◌, Bool, cond, ◌&&◌, List, [], ltb, leb, eqb, length}
+use Rattle.std.specs.Prelude.{ℕ, ◌+◌, ◌*◌, Bool, cond, ◌&&◌, List, [], ltb, leb, eqb, length, Result, Ok, Err}
 use Rattle.words.specs.Lists.{first_bad}
 use Rattle.words.specs.Bytes.{u16_at}
 use Rattle.net.specs.Records.{site_width, node_width, aspect_width, action_width, row_width}
@@ -7,38 +7,38 @@ use Rattle.net.specs.Net.{State, Rules, most_sites, most_nodes, most_aspects, mo
 use Rattle.net.specs.Image.{contents_ok, body_in, offset_in, state_in, rules_in}
 use Rattle.rulebook.specs.Rulebook.{node_ok, aspect_ok}
 use Rattle.format.specs.Format.{site_ok, action_ok, row_ok, state_ok}
-use Rattle.format.specs.declared.Verdict.{Verdict}
-use Rattle.format.specs.declared.Verdict.TheVariants.{Accepted, Size, Edition, Contents, BadSite, BadNode, BadAspect, BadAction, BadRow, BadState, Small}
+use Rattle.format.specs.declared.Refusal.{Refusal}
+use Rattle.format.specs.declared.Refusal.TheVariants.{Size, Edition, Contents, BadSite, BadNode, BadAspect, BadAction, BadRow, BadState, Small}
 
 -- ---- the paper's number of each answer, and the record that it carries: "13 to 17 carry the number of the first bad record of that kind; 18 the
 -- first site .. Others carry 0"
-abbrev pub number_of : Verdict → ℕ
-number_of Accepted = 0
-number_of Size = 10
-number_of Edition = 11
-number_of Contents = 12
-number_of (BadSite k) = 13
-number_of (BadNode k) = 14
-number_of (BadAspect k) = 15
-number_of (BadAction k) = 16
-number_of (BadRow k) = 17
-number_of (BadState k) = 18
-number_of Small = 19
+abbrev pub number_of : Result Unit Refusal → ℕ
+number_of (Ok x) = 0
+number_of (Err Size) = 10
+number_of (Err Edition) = 11
+number_of (Err Contents) = 12
+number_of (Err (BadSite k)) = 13
+number_of (Err (BadNode k)) = 14
+number_of (Err (BadAspect k)) = 15
+number_of (Err (BadAction k)) = 16
+number_of (Err (BadRow k)) = 17
+number_of (Err (BadState k)) = 18
+number_of (Err Small) = 19
 
-abbrev pub record_of : Verdict → ℕ
-record_of Accepted = 0
-record_of Size = 0
-record_of Edition = 0
-record_of Contents = 0
-record_of (BadSite k) = k
-record_of (BadNode k) = k
-record_of (BadAspect k) = k
-record_of (BadAction k) = k
-record_of (BadRow k) = k
-record_of (BadState k) = k
-record_of Small = 0
+abbrev pub record_of : Result Unit Refusal → ℕ
+record_of (Ok x) = 0
+record_of (Err Size) = 0
+record_of (Err Edition) = 0
+record_of (Err Contents) = 0
+record_of (Err (BadSite k)) = k
+record_of (Err (BadNode k)) = k
+record_of (Err (BadAspect k)) = k
+record_of (Err (BadAction k)) = k
+record_of (Err (BadRow k)) = k
+record_of (Err (BadState k)) = k
+record_of (Err Small) = 0
 
-abbrev pub is_accepted : Verdict → Bool
+abbrev pub is_accepted : Result Unit Refusal → Bool
 is_accepted v = eqb (number_of v) 0
 
 -- ---- the first bad record of each kind
@@ -61,15 +61,15 @@ abbrev pub bad_state : State → ℕ
 bad_state s = first_bad (state_ok s.actions s.sites) (length s.sites)
 
 -- 13 to 18, in this order: the part of check's answer that turns on records
-unfoldable pub records_verdict : State → Rules → Verdict
+unfoldable pub records_verdict : State → Rules → Result Unit Refusal
 records_verdict s r =
-    cond (ltb (bad_site s) (length s.sites)) (BadSite (bad_site s))
-    (cond (ltb (bad_node s r) (length r.nodes)) (BadNode (bad_node s r))
-    (cond (ltb (bad_aspect s r) (length r.aspects)) (BadAspect (bad_aspect s r))
-    (cond (ltb (bad_action s) (length s.actions)) (BadAction (bad_action s))
-    (cond (ltb (bad_row s) (length s.rows)) (BadRow (bad_row s))
-    (cond (ltb (bad_state s) (length s.sites)) (BadState (bad_state s))
-    Accepted)))))
+    cond (ltb (bad_site s) (length s.sites)) (Err (BadSite (bad_site s)))
+    (cond (ltb (bad_node s r) (length r.nodes)) (Err (BadNode (bad_node s r)))
+    (cond (ltb (bad_aspect s r) (length r.aspects)) (Err (BadAspect (bad_aspect s r)))
+    (cond (ltb (bad_action s) (length s.actions)) (Err (BadAction (bad_action s)))
+    (cond (ltb (bad_row s) (length s.rows)) (Err (BadRow (bad_row s)))
+    (cond (ltb (bad_state s) (length s.sites)) (Err (BadState (bad_state s)))
+    (Ok tt))))))
 
 -- ---- "10 SIZE (under 44 or over 51,244)": a header, and the most records of every kind
 abbrev pub least_size : ℕ
@@ -82,8 +82,11 @@ unfoldable pub size_ok : List ℕ → Bool
 size_ok s = leb least_size (length s) && leb (length s) most_size
 
 -- ---- what check answers
-unfoldable pub verdict_of : List ℕ → Verdict
-verdict_of s = cond (size_ok s) (cond (eqb (u16_at s 0) 1) (cond (contents_ok s) (records_verdict (state_in s) (rules_in s)) Contents) Edition) Size
+unfoldable pub verdict_of : List ℕ → Result Unit Refusal
+verdict_of s =
+    cond (size_ok s)
+    (cond (eqb (u16_at s 0) 1) (cond (contents_ok s) (records_verdict (state_in s) (rules_in s)) (Err Contents)) (Err Edition))
+    (Err Size)
 
 -- ---- "body: that part of the image; the empty part if check refuses the image or the kind is not 1..5"
 unfoldable pub handed_out : List ℕ → ℕ → Bool

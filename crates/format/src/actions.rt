@@ -1,19 +1,15 @@
 // The actions of an image: owners in order, at most 16 of one; operands as an action may have them; and of the variables, none bound twice,
 // none both bound and used, and each used one bound by an earlier action of the same program.
-ghost use Rattle.std.specs.Prelude.{◌≡◌, cond, ◌&&◌, ℕ, ◌+◌, ◌*◌, ◌≤◌, ◌<◌, eqb, length, get_or};
-ghost use Rattle.words.specs.Lists.{first_bad, before, all_of};
-ghost use Rattle.net.specs.Records.{action_width};
-ghost use Rattle.net.specs.Net.{program_limit};
+ghost use Rattle.std.specs.Prelude.{◌≡◌, cond, eqb, length};
+ghost use Rattle.words.specs.Lists.{first_failing, all_of};
 ghost use Rattle.net.specs.Image.{actions_in};
-ghost use Rattle.rulebook.specs.Parts.{owners_in, owner_ok, room_ok};
 ghost use Rattle.format.specs.Format.{action_ok};
-ghost use Rattle.format.specs.Steps.{form_rules};
+ghost use Rattle.format.specs.Steps.{operands_good, form_rules};
 
-use crate::contents::ACTION_WIDTH;
 use crate::owners::place_ok;
 use crate::variables::{bound_too, parts_ok};
-use net::{Action, action_at};
-use rulebook::{capability_ok, count_ok, operand_ok, operands_ok};
+use net::{Action, Capability, count, nth};
+use rulebook::{Tags, capability_ok, count_ok};
 
 // The most actions of one site.
 const PROGRAM_LIMIT: usize = 16;
@@ -25,45 +21,44 @@ fn bound_for(bound: u8, last: u8, owner: u8) -> u8
     if owner == last { bound } else { 0 }
 }
 
+// Whether the fields of an action are as its capability has them: a put binds nothing.
+fn fields_ok(x: Action) -> bool
+    ensures { result ≡ operands_good x }
+{
+    let tags = if x.does(Capability::Put) {
+        Tags::PLAIN
+    } else {
+        Tags::BOUND
+    };
+    tags.allow_first(x.count, x.fields)
+}
+
 // Whether an action is good by itself, after actions of its program that bind `bound`.
 fn form_ok(bound: u8, x: Action) -> bool
     ensures { result ≡ all_of (form_rules bound x) }
 {
-    let f = x.fields;
     x.zero == 0
         && (capability_ok(x.capability)
             && (count_ok(x.count)
-                && (operand_ok(x.target, false, false, false)
-                    && (operands_ok(f, x.count, x.capability != 1, false, false)
-                        && parts_ok(bound, x.target, f)))))
+                && (Tags::PLAIN.allow(x.target)
+                    && (fields_ok(x) && parts_ok(bound, x.target, x.fields)))))
 }
 
-// Whether action k is good, after actions whose owners never fall and that bind `bound` where they are of its program.
-fn action_ok(actions: &[u8], sites: usize, k: usize, bound: u8, x: Action) -> bool
-    requires { (action_width * k + action_width ≤ length actions.now) × ((j : ℕ) → j < k → before (owners_in action_width actions.now) j ≤ get_or (owners_in action_width actions.now) j 0) }
-    ensures { result ≡ ((owner_ok sites (owners_in action_width actions.now) k && room_ok program_limit (owners_in action_width actions.now) k) && all_of (form_rules bound x)) }
+// The first bad action of a net of so many sites.
+pub fn first_bad_action(actions: &[u8], sites: usize) -> Option<usize>
+    ensures { result ≡ first_failing (action_ok sites (actions_in actions.now)) (length (actions_in actions.now)) }
 {
-    place_ok(actions, ACTION_WIDTH, PROGRAM_LIMIT, sites, k) && form_ok(bound, x)
-}
-
-// The number of the first bad action in a net of so many sites, or how many actions there are.
-pub fn first_bad_action(actions: &[u8], sites: usize) -> usize
-    ensures { (result ≡ first_bad (action_ok sites (actions_in actions.now)) (length (actions_in actions.now))) × (result ≤ length (actions_in actions.now)) }
-{
-    let n = actions.len() / ACTION_WIDTH;
     let mut bound = 0;
     let mut last = 0;
-    let mut k = 0;
-    while k < n {
-        let x = action_at(actions, ACTION_WIDTH * k);
+    for k in 0..count::<Action>(actions) {
+        let x = nth::<Action>(actions, k);
         let earlier = bound_for(bound, last, x.owner);
-        if !action_ok(actions, sites, k, earlier, x) {
-            return k;
+        let good = place_ok::<Action>(actions, PROGRAM_LIMIT, sites, k) & form_ok(earlier, x);
+        if !good {
+            return Some(k);
         }
-        let f = x.fields;
-        bound = bound_too(earlier, f);
+        bound = bound_too(earlier, x.fields);
         last = x.owner;
-        k += 1;
     }
-    n
+    None
 }

@@ -1,20 +1,11 @@
 // The header of an image: how many records of each kind it says, where each body lies, and whether its contents are in order.
-ghost use Rattle.std.specs.Prelude.{◌≡◌, true, ◌+◌, ◌^◌, ◌≤◌, ◌<◌, length};
+ghost use Rattle.std.specs.Prelude.{◌≡◌, true, false, ◌+◌, ◌^◌, ◌≤◌, ◌<◌, length, MatchOption};
 ghost use Rattle.net.specs.Image.{width_of, most_of, least_of, count_in, offset_in, length_in, start_in, end_in, entry_ok, contents_ok, body_in};
+ghost use Rattle.format.specs.Kinds.{kind_number, kind_of};
 ghost use Rattle.format.specs.Verdict.{size_ok};
 
+use net::{Action, Aspect, Node, Record, Row, Site, Unknown};
 use words::{long_at, size_at};
-
-// The bytes of a record of each kind.
-pub const SITE_WIDTH: usize = 32;
-
-pub const NODE_WIDTH: usize = 24;
-
-pub const ASPECT_WIDTH: usize = 32;
-
-pub const ACTION_WIDTH: usize = 24;
-
-pub const ROW_WIDTH: usize = 10;
 
 // The most records of each kind.
 const MOST_SITES: usize = 32;
@@ -31,29 +22,10 @@ const MOST_ROWS: usize = 512;
 const HEADER: usize = 44;
 
 const MOST_BYTES: usize = HEADER
-    + (SITE_WIDTH * MOST_SITES
-        + (NODE_WIDTH * MOST_NODES
-            + (ASPECT_WIDTH * MOST_ASPECTS
-                + (ACTION_WIDTH * MOST_ACTIONS + ROW_WIDTH * MOST_ROWS))));
-
-// The width of the records of each kind, and the most of them; kinds count from 1.
-const WIDTH: [usize; 6] = [
-    0,
-    SITE_WIDTH,
-    NODE_WIDTH,
-    ASPECT_WIDTH,
-    ACTION_WIDTH,
-    ROW_WIDTH,
-];
-
-const MOST: [usize; 6] = [
-    0,
-    MOST_SITES,
-    MOST_NODES,
-    MOST_ASPECTS,
-    MOST_ACTIONS,
-    MOST_ROWS,
-];
+    + (Site::WIDTH * MOST_SITES
+        + (Node::WIDTH * MOST_NODES
+            + (Aspect::WIDTH * MOST_ASPECTS
+                + (Action::WIDTH * MOST_ACTIONS + Row::WIDTH * MOST_ROWS))));
 
 // Whether an image is as long as one can be: it has a header, and no more than the most records of every kind.
 #[tactic(auto, unfolding(crate::specs::Verdict::size_ok))]
@@ -63,64 +35,128 @@ pub fn size_ok(s: &[u8]) -> bool
     (HEADER <= s.len()) & (s.len() <= MOST_BYTES)
 }
 
-// The bytes of a record of a kind.
-#[tactic(auto, unfolding(net::specs::Image::width_of))]
-fn width(k: usize) -> usize
-    requires { k < 6 }
-    ensures { (result ≡ width_of k) × (result ≤ 32) }
-{
-    WIDTH[k]
+// The kinds of record, in the order of their bodies.
+#[derive(Clone, Copy, PartialEq, Eq, Debug)]
+pub enum Kind {
+    Sites,
+    Nodes,
+    Aspects,
+    Actions,
+    Rows,
 }
 
-// The most records of a kind.
-#[tactic(auto, unfolding(net::specs::Image::most_of))]
-fn most(k: usize) -> usize
-    requires { k < 6 }
-    ensures { result ≡ most_of k }
-{
-    MOST[k]
+impl From<Kind> for usize {
+    ghost from_gives = { λ kind n. n ≡ kind_number kind };
+
+    fn from(kind: Kind) -> usize {
+        match kind {
+            Kind::Sites => 1,
+            Kind::Nodes => 2,
+            Kind::Aspects => 3,
+            Kind::Actions => 4,
+            Kind::Rows => 5,
+        }
+    }
 }
 
-// The least records of a kind: a net has a site.
-fn least(k: usize) -> usize
-    ensures { result ≡ least_of k }
-{
-    if k == 1 { 1 } else { 0 }
+impl TryFrom<u16> for Kind {
+    type Error = Unknown;
+
+    ghost try_from_gives = { λ n kind. kind ≡ kind_of n };
+
+    fn try_from(number: u16) -> Result<Kind, Unknown> {
+        match number {
+            1 => Ok(Kind::Sites),
+            2 => Ok(Kind::Nodes),
+            3 => Ok(Kind::Aspects),
+            4 => Ok(Kind::Actions),
+            5 => Ok(Kind::Rows),
+            _ => Err(Unknown),
+        }
+    }
+}
+
+impl Kind {
+    // The bytes of a record.
+    #[tactic(auto, unfolding(net::specs::Image::width_of))]
+    fn width(self) -> usize
+        ensures { (result ≡ width_of (kind_number self)) × (result ≤ 32) }
+    {
+        match self {
+            Kind::Sites => Site::WIDTH,
+            Kind::Nodes => Node::WIDTH,
+            Kind::Aspects => Aspect::WIDTH,
+            Kind::Actions => Action::WIDTH,
+            Kind::Rows => Row::WIDTH,
+        }
+    }
+
+    // The most records.
+    #[tactic(auto, unfolding(net::specs::Image::most_of))]
+    fn most(self) -> usize
+        ensures { result ≡ most_of (kind_number self) }
+    {
+        match self {
+            Kind::Sites => MOST_SITES,
+            Kind::Nodes => MOST_NODES,
+            Kind::Aspects => MOST_ASPECTS,
+            Kind::Actions => MOST_ACTIONS,
+            Kind::Rows => MOST_ROWS,
+        }
+    }
+
+    // The least records: a net has a site.
+    fn least(self) -> usize
+        ensures { result ≡ least_of (kind_number self) }
+    {
+        if self == Kind::Sites { 1 } else { 0 }
+    }
 }
 
 // How many records of a kind the contents say.
-pub fn count(s: &[u8], k: usize) -> usize
-    requires { (1 ≤ k) × (k < 6) × (44 ≤ length s.now) }
-    ensures { (result ≡ count_in s.now k) × (result < 65536) }
+pub fn records(s: &[u8], kind: Kind) -> usize
+    requires { 44 ≤ length s.now }
+    ensures { (result ≡ count_in s.now (kind_number kind)) × (result < 65536) }
 {
-    size_at(s, 8 * k - 2)
+    size_at(s, 8 * usize::from(kind) - 2)
 }
 
 // Where the contents say that the body of a kind starts.
-pub fn offset(s: &[u8], k: usize) -> usize
-    requires { (1 ≤ k) × (k < 6) × (44 ≤ length s.now) }
-    ensures { (result ≡ offset_in s.now k) × (result < 2 ^ 32) }
+pub fn offset(s: &[u8], kind: Kind) -> usize
+    requires { 44 ≤ length s.now }
+    ensures { (result ≡ offset_in s.now (kind_number kind)) × (result < 2 ^ 32) }
 {
-    long_at(s, 8 * k)
+    long_at(s, 8 * usize::from(kind))
 }
 
 // How long the body of a kind is.
-fn size(s: &[u8], k: usize) -> usize
-    requires { (1 ≤ k) × (k < 6) × (44 ≤ length s.now) }
-    ensures { (result ≡ length_in s.now k) × (result < 2 ^ 32) }
+fn size(s: &[u8], kind: Kind) -> usize
+    requires { 44 ≤ length s.now }
+    ensures { (result ≡ length_in s.now (kind_number kind)) × (result < 2 ^ 32) }
 {
-    width(k) * count(s, k)
+    kind.width() * records(s, kind)
+}
+
+// Where the body of a kind ends.
+fn end_of(s: &[u8], kind: Kind) -> usize
+    requires { 44 ≤ length s.now }
+    ensures { (result ≡ start_in s.now (kind_number kind + 1)) × (result < 2 ^ 33) }
+{
+    offset(s, kind) + size(s, kind)
 }
 
 // Where the body of a kind has to start: the first after the header, each other where the one before it ends.
-fn start(s: &[u8], k: usize) -> usize
-    requires { (1 ≤ k) × (k < 7) × (44 ≤ length s.now) }
-    ensures { (result ≡ start_in s.now k) × (result < 2 ^ 33) }
+fn start(s: &[u8], kind: Kind) -> usize
+    requires { 44 ≤ length s.now }
+    ensures { (result ≡ start_in s.now (kind_number kind)) × (result < 2 ^ 33) }
 {
-    if k == 1 {
-        return HEADER;
+    match kind {
+        Kind::Sites => HEADER,
+        Kind::Nodes => end_of(s, Kind::Sites),
+        Kind::Aspects => end_of(s, Kind::Nodes),
+        Kind::Actions => end_of(s, Kind::Aspects),
+        Kind::Rows => end_of(s, Kind::Actions),
     }
-    offset(s, k - 1) + size(s, k - 1)
 }
 
 // Where the last body ends.
@@ -128,40 +164,62 @@ pub fn end(s: &[u8]) -> usize
     requires { 44 ≤ length s.now }
     ensures { (result ≡ end_in s.now) × (result < 2 ^ 33) }
 {
-    start(s, 6)
+    end_of(s, Kind::Rows)
 }
 
 // Whether the entry of a kind is right.
 #[tactic(auto, unfolding(net::specs::Image::entry_ok))]
-fn entry_ok(s: &[u8], k: usize) -> bool
-    requires { (1 ≤ k) × (k < 6) × (44 ≤ length s.now) }
-    ensures { result ≡ entry_ok s.now k }
+fn entry_ok(s: &[u8], kind: Kind) -> bool
+    requires { 44 ≤ length s.now }
+    ensures { result ≡ entry_ok s.now (kind_number kind) }
 {
-    let n = count(s, k);
-    (size_at(s, 8 * k - 4) == k)
-        & ((least(k) <= n) & ((n <= most(k)) & (offset(s, k) == start(s, k))))
+    let n = records(s, kind);
+    (size_at(s, 8 * usize::from(kind) - 4) == usize::from(kind))
+        & ((kind.least() <= n) & ((n <= kind.most()) & (offset(s, kind) == start(s, kind))))
 }
 
 // Whether the contents are in order: five entries that are right, and the image ends with the last body.
 #[tactic(auto, unfolding(net::specs::Image::contents_ok))]
-pub fn contents_ok(s: &[u8]) -> bool
+fn contents_ok(s: &[u8]) -> bool
     requires { 44 ≤ length s.now }
     ensures { result ≡ contents_ok s.now }
 {
     (size_at(s, 2) == 5)
-        & (entry_ok(s, 1)
-            & (entry_ok(s, 2)
-                & (entry_ok(s, 3) & (entry_ok(s, 4) & (entry_ok(s, 5) & (end(s) == s.len()))))))
+        & (entry_ok(s, Kind::Sites)
+            & (entry_ok(s, Kind::Nodes)
+                & (entry_ok(s, Kind::Aspects)
+                    & (entry_ok(s, Kind::Actions)
+                        & (entry_ok(s, Kind::Rows) & (end(s) == s.len()))))))
 }
 
-// The body of a kind: that part of an image whose contents are in order.
-#[tactic(auto, using(net::proofs::Bodies::least_length, net::proofs::Bodies::within), unfolding(net::specs::Image::body_in))]
-pub fn part(s: &[u8], k: usize) -> &[u8]
-    requires { (1 ≤ k) × (k < 6) × (contents_ok s.now ≡ true) }
-    ensures result_value { result.now ≡ body_in s.now k }
-    ensures ref_ptr_value { result.ref_ptr ≡ (s.entry.ref_ptr.0, offset_in s.now k + s.entry.ref_ptr.1) }
-{
-    let a = offset(s, k);
-    let n = size(s, k);
-    &s[a..a + n]
+// An image whose contents are in order, so that each body is where its entry says.
+#[derive(Clone, Copy)]
+pub struct Image<'a> {
+    pub bytes: &'a [u8],
+    ghost in_order: { contents_ok bytes.now ≡ true },
+}
+
+impl<'a> Image<'a> {
+    // These bytes as an image, if their contents are in order.
+    pub fn of(bytes: &'a [u8]) -> Option<Image<'a>>
+        requires { 44 ≤ length bytes.now }
+        ensures { MatchOption result (contents_ok bytes.now ≡ false) (λ image. (image.bytes ≡ bytes.entry) × (contents_ok bytes.now ≡ true)) }
+    {
+        if contents_ok(bytes) {
+            Some(Image { bytes })
+        } else {
+            None
+        }
+    }
+
+    // The body of a kind: that part of the image itself.
+    #[tactic(auto, using(net::proofs::Bodies::least_length, net::proofs::Bodies::within), unfolding(net::specs::Image::body_in))]
+    pub fn body(self, kind: Kind) -> &'a [u8]
+        ensures result_value { result.now ≡ body_in self.entry.bytes.now (kind_number kind) }
+        ensures ref_ptr_value { result.ref_ptr ≡ (self.entry.bytes.ref_ptr.0, offset_in self.entry.bytes.now (kind_number kind) + self.entry.bytes.ref_ptr.1) }
+    {
+        let start = offset(self.bytes, kind);
+        let length = size(self.bytes, kind);
+        &self.bytes[start..start + length]
+    }
 }

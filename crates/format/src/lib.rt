@@ -11,27 +11,26 @@ mod states;
 mod stores;
 mod variables;
 
-ghost use Rattle.std.specs.Prelude.{◌≡◌, true};
-ghost use Rattle.net.specs.Image.{contents_ok, state_in, rules_in};
-ghost use Rattle.format.specs.Verdict.{number_of, record_of, records_verdict, verdict_of, handed_out, body_of, body_place};
+ghost use Rattle.std.specs.Prelude.{◌≡◌, ◌<◌, true, false, MatchOption, IfSome};
+ghost use Rattle.net.specs.Image.{state_in, rules_in};
+ghost use Rattle.format.specs.Verdict.{number_of, record_of, is_accepted, records_verdict, verdict_of, body_of, body_place};
 ghost use Rattle.format.specs.Steps.{state_verdict};
+ghost use Rattle.format.specs.declared.Refusal.{Refusal};
 
 use actions::first_bad_action;
-pub use contents::{
-    ACTION_WIDTH, ASPECT_WIDTH, NODE_WIDTH, ROW_WIDTH, SITE_WIDTH, count, end, offset, part,
-};
-use contents::{contents_ok, size_ok};
+use contents::size_ok;
+pub use contents::{Image, Kind, end, offset, records};
+use net::{Site, count};
 use rulebook::{first_bad_aspect, first_bad_node};
 use sites::first_bad_site;
-use states::first_bad_state;
+use states::Programs;
 pub use stores::STORE_LIMIT;
 use stores::first_bad_row;
 use words::word;
 
-// What a check answers. `Small` is load's alone.
-#[derive(Clone, Copy)]
-pub enum Verdict {
-    Accepted,
+// Why an image is refused. `Small` is load's alone.
+#[derive(Clone, Copy, PartialEq, Eq, Debug)]
+pub enum Refusal {
     Size,
     Edition,
     Contents,
@@ -44,22 +43,25 @@ pub enum Verdict {
     Small,
 }
 
+// What a check answers.
+pub type Verdict = Result<(), Refusal>;
+
 // The paper's number of an answer.
 pub fn number(v: Verdict) -> u16
     ensures { result ≡ number_of v }
 {
     match v {
-        Verdict::Accepted => 0,
-        Verdict::Size => 10,
-        Verdict::Edition => 11,
-        Verdict::Contents => 12,
-        Verdict::BadSite(_) => 13,
-        Verdict::BadNode(_) => 14,
-        Verdict::BadAspect(_) => 15,
-        Verdict::BadAction(_) => 16,
-        Verdict::BadRow(_) => 17,
-        Verdict::BadState(_) => 18,
-        Verdict::Small => 19,
+        Ok(()) => 0,
+        Err(Refusal::Size) => 10,
+        Err(Refusal::Edition) => 11,
+        Err(Refusal::Contents) => 12,
+        Err(Refusal::BadSite(_)) => 13,
+        Err(Refusal::BadNode(_)) => 14,
+        Err(Refusal::BadAspect(_)) => 15,
+        Err(Refusal::BadAction(_)) => 16,
+        Err(Refusal::BadRow(_)) => 17,
+        Err(Refusal::BadState(_)) => 18,
+        Err(Refusal::Small) => 19,
     }
 }
 
@@ -68,99 +70,94 @@ pub fn record(v: Verdict) -> u16
     ensures { result ≡ record_of v }
 {
     match v {
-        Verdict::Accepted => 0,
-        Verdict::Size => 0,
-        Verdict::Edition => 0,
-        Verdict::Contents => 0,
-        Verdict::BadSite(k) => k,
-        Verdict::BadNode(k) => k,
-        Verdict::BadAspect(k) => k,
-        Verdict::BadAction(k) => k,
-        Verdict::BadRow(k) => k,
-        Verdict::BadState(k) => k,
-        Verdict::Small => 0,
+        Err(
+            Refusal::BadSite(k)
+            | Refusal::BadNode(k)
+            | Refusal::BadAspect(k)
+            | Refusal::BadAction(k)
+            | Refusal::BadRow(k)
+            | Refusal::BadState(k),
+        ) => k,
+        _ => 0,
     }
 }
 
-// The verdict on actions, rows and the state of each site, of an image whose contents are in order.
-fn check_state(s: &[u8]) -> Verdict
-    requires { contents_ok s.now ≡ true }
-    ensures { result ≡ state_verdict (state_in s.now) }
+// The verdict on a kind of record, of which the first bad one is found: its refusal carries the number.
+fn refuse<F: FnOnce(u16) -> Refusal>(bad: Option<usize>, refusal: F) -> Verdict
+    requires small { IfSome bad (λ k. k < 65536) }
+    requires callable { F.IsAlwaysCallable refusal }
+    ensures { MatchOption bad (result ≡ Ok tt) (λ k. (why : Refusal) × F.post refusal k why × (result ≡ Err why)) }
 {
-    let sites = part(s, 1);
-    let actions = part(s, 4);
-    let rows = part(s, 5);
-    let n = sites.len() / SITE_WIDTH;
-    let action = first_bad_action(actions, n);
-    if action < actions.len() / ACTION_WIDTH {
-        return Verdict::BadAction(action as u16);
+    match bad {
+        None => Ok(()),
+        Some(k) => Err(refusal(k as u16)),
     }
-    let row = first_bad_row(rows, n);
-    if row < rows.len() / ROW_WIDTH {
-        return Verdict::BadRow(row as u16);
-    }
-    let state = first_bad_state(sites, actions);
-    if state < n {
-        return Verdict::BadState(state as u16);
-    }
-    Verdict::Accepted
 }
 
-// The verdict on all records of an image whose contents are in order.
-fn check_records(s: &[u8]) -> Verdict
-    requires { contents_ok s.now ≡ true }
-    ensures { result ≡ records_verdict (state_in s.now) (rules_in s.now) }
+// The verdict on actions, rows and the state of each site.
+fn check_state(image: Image<'_>) -> Verdict
+    ensures { result ≡ state_verdict (state_in image.entry.bytes.now) }
 {
-    let sites = part(s, 1);
-    let nodes = part(s, 2);
-    let aspects = part(s, 3);
-    let n = sites.len() / SITE_WIDTH;
-    let site = first_bad_site(sites);
-    if site < n {
-        return Verdict::BadSite(site as u16);
-    }
-    let node = first_bad_node(nodes, sites);
-    if node < nodes.len() / NODE_WIDTH {
-        return Verdict::BadNode(node as u16);
-    }
-    let aspect = first_bad_aspect(aspects, nodes, n);
-    if aspect < aspects.len() / ASPECT_WIDTH {
-        return Verdict::BadAspect(aspect as u16);
-    }
-    check_state(s)
+    let sites = image.body(Kind::Sites);
+    let actions = image.body(Kind::Actions);
+    let n = count::<Site>(sites);
+    refuse(first_bad_action(actions, n), Refusal::BadAction)?;
+    refuse(first_bad_row(image.body(Kind::Rows), n), Refusal::BadRow)?;
+    refuse(
+        Programs { actions }.first_bad_state(sites),
+        Refusal::BadState,
+    )
+}
+
+// The verdict on all records.
+fn check_records(image: Image<'_>) -> Verdict
+    ensures { result ≡ records_verdict (state_in image.entry.bytes.now) (rules_in image.entry.bytes.now) }
+{
+    let sites = image.body(Kind::Sites);
+    let nodes = image.body(Kind::Nodes);
+    let aspects = image.body(Kind::Aspects);
+    refuse(first_bad_site(sites), Refusal::BadSite)?;
+    refuse(first_bad_node(nodes, sites), Refusal::BadNode)?;
+    refuse(
+        first_bad_aspect(aspects, nodes, count::<Site>(sites)),
+        Refusal::BadAspect,
+    )?;
+    check_state(image)
 }
 
 // Whether an image is accepted, and if not why.
+#[tactic(auto, unfolding(crate::specs::Verdict::size_ok, crate::specs::Verdict::verdict_of))]
 pub fn check(image: &[u8]) -> Verdict
     ensures { result ≡ verdict_of image.now }
 {
     if !size_ok(image) {
-        return Verdict::Size;
+        return Err(Refusal::Size);
     }
     if word(image, 0) != 1 {
-        return Verdict::Edition;
+        return Err(Refusal::Edition);
     }
-    if !contents_ok(image) {
-        return Verdict::Contents;
-    }
-    check_records(image)
+    check_records(Image::of(image).ok_or(Refusal::Contents)?)
 }
 
-// Whether a body is handed out: the kind is one of the five, and the image is accepted.
-#[tactic(auto, unfolding(crate::specs::Verdict::handed_out))]
-fn handed_out(image: &[u8], kind: u16) -> bool
-    ensures { result ≡ handed_out image.now kind }
+// An image that is accepted.
+pub fn accepted(image: &[u8]) -> Option<Image<'_>>
+    ensures { MatchOption result (is_accepted (verdict_of image.now) ≡ false) (λ it. (it.bytes ≡ image.entry) × (verdict_of image.now ≡ Ok tt)) }
 {
-    ((1 <= kind) & (kind <= 5)) && number(check(image)) == 0
+    check(image).ok()?;
+    Some(Image { bytes: image })
 }
 
 // The body of a kind, as that part of the image itself; the empty part of it if the image is refused or there is no such kind.
+#[tactic(auto, unfolding(crate::specs::Verdict::handed_out, crate::specs::Verdict::body_of, crate::specs::Verdict::body_place))]
 pub fn body<'a>(image: &'a [u8], kind: u16) -> &'a [u8]
     ensures result_value { result.now ≡ body_of image.now kind }
     ensures ref_ptr_value { result.ref_ptr ≡ body_place image.entry.ref_ptr image.now kind }
 {
-    if !handed_out(image, kind) {
+    let Ok(kind) = Kind::try_from(kind) else {
         return &image[..0];
+    };
+    match accepted(image) {
+        Some(image) => image.body(kind),
+        None => &image[..0],
     }
-    part(image, kind as usize)
 }

@@ -3,25 +3,26 @@
 // the count of fields are tested here.
 ghost use Rattle.std.specs.Prelude.{◌≡◌};
 ghost use Rattle.std.specs.Int.Bits.{bit_or};
+ghost use Rattle.net.specs.Codes.{tag_code};
 ghost use Rattle.format.specs.Steps.{Ranged, EachRanged, bit_of, set_of, apart, parts_ok};
 
-use net::Operand;
+use net::{Operand, Tag};
 
 // The variable of a part that has this tag.
 #[tactic(auto, unfolding(crate::specs::Steps::bit_of))]
-fn bit(tag: u16, x: Operand) -> u8
-    requires { Ranged tag x }
-    ensures { result ≡ bit_of tag x }
+fn bit(tag: Tag, x: Operand) -> u8
+    requires { Ranged (tag_code tag) x }
+    ensures { result ≡ bit_of (tag_code tag) x }
 {
     let v = x.value;
-    if x.tag == tag { 1u8 << v } else { 0 }
+    if x.has(tag) { 1u8 << v } else { 0 }
 }
 
 // The variables of those of four fields with this tag.
 #[tactic(auto, using(crate::proofs::Binding::set_steps))]
-fn set_of(tag: u16, f: [Operand; 4]) -> u8
-    requires { EachRanged tag f }
-    ensures { result ≡ set_of tag f }
+fn set_of(tag: Tag, f: [Operand; 4]) -> u8
+    requires { EachRanged (tag_code tag) f }
+    ensures { result ≡ set_of (tag_code tag) f }
 {
     bit(tag, f[0]) | (bit(tag, f[1]) | (bit(tag, f[2]) | bit(tag, f[3])))
 }
@@ -32,10 +33,10 @@ fn bound_once(f: [Operand; 4]) -> bool
     requires { EachRanged 2 f }
     ensures { result ≡ apart 2 f }
 {
-    let a = bit(2, f[0]);
-    let b = bit(2, f[1]);
-    let c = bit(2, f[2]);
-    let d = bit(2, f[3]);
+    let a = bit(Tag::Binds, f[0]);
+    let b = bit(Tag::Binds, f[1]);
+    let c = bit(Tag::Binds, f[2]);
+    let d = bit(Tag::Binds, f[3]);
     ((a & (b | (c | d))) == 0) & (((b & (c | d)) == 0) & ((c & d) == 0))
 }
 
@@ -45,8 +46,8 @@ pub fn parts_ok(bound: u8, target: Operand, f: [Operand; 4]) -> bool
     requires { Ranged 1 target × EachRanged 1 f × EachRanged 2 f }
     ensures { result ≡ parts_ok bound target f }
 {
-    let uses = bit(1, target) | set_of(1, f);
-    let binds = set_of(2, f);
+    let uses = bit(Tag::Variable, target) | set_of(Tag::Variable, f);
+    let binds = set_of(Tag::Binds, f);
     bound_once(f) & (((uses & binds) == 0) & ((uses & bound) == uses))
 }
 
@@ -55,5 +56,5 @@ pub fn bound_too(bound: u8, f: [Operand; 4]) -> u8
     requires { EachRanged 2 f }
     ensures { result ≡ bit_or bound (set_of 2 f) }
 {
-    bound | set_of(2, f)
+    bound | set_of(Tag::Binds, f)
 }

@@ -4,6 +4,18 @@
 use std::io::Result;
 use std::rt::Files;
 
+// The inputs, in order.
+const LESSONS: [&[u8]; 8] = [
+    b"01-first-field.in",
+    b"02-unit-alone.in",
+    b"03-waiting-read.in",
+    b"04-rank-alone.in",
+    b"05-read-high-write-low.in",
+    b"06-yes-and-no.in",
+    b"07-allow-rule.in",
+    b"08-full-store.in",
+];
+
 // Steps through the input in a file.
 fn lesson(rt: &(impl Files + Print), path: &[u8]) -> Result<()> {
     let mut input = io::large_buffer();
@@ -14,12 +26,8 @@ fn lesson(rt: &(impl Files + Print), path: &[u8]) -> Result<()> {
 }
 
 fn main(rt: HostRuntime) -> Result<()> {
-    lesson(&rt, b"01-first-field.in")?;
-    lesson(&rt, b"02-unit-alone.in")?;
-    lesson(&rt, b"03-waiting-read.in")?;
-    lesson(&rt, b"04-rank-alone.in")?;
-    lesson(&rt, b"05-read-high-write-low.in")?;
-    lesson(&rt, b"06-yes-and-no.in")?;
-    lesson(&rt, b"07-allow-rule.in")?;
-    lesson(&rt, b"08-full-store.in")
+    for path in LESSONS {
+        lesson(&rt, path)?;
+    }
+    Ok(())
 }

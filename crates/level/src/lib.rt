@@ -5,9 +5,17 @@
 ghost use Rattle.std.specs.Prelude.{◌≡◌};
 ghost use Rattle.level.specs.Level.{dominates, join};
 
-#[derive(Clone, Copy)]
+#[derive(Clone, Copy, PartialEq, Eq, Debug)]
 pub struct Level {
     pub code: u16,
+}
+
+impl From<u16> for Level {
+    ghost from_gives = { λ code level. level.code ≡ code };
+
+    fn from(code: u16) -> Level {
+        Level { code }
+    }
 }
 
 impl Level {
@@ -34,16 +42,9 @@ impl Level {
     {
         let x = self.code;
         let y = other.code;
+        let rank = (x / 256).max(y / 256);
         let categories = (x % 256) | (y % 256);
-        if x / 256 <= y / 256 {
-            Level {
-                code: y / 256 * 256 + categories,
-            }
-        } else {
-            Level {
-                code: x / 256 * 256 + categories,
-            }
-        }
+        Level::from(rank * 256 + categories)
     }
 }
 

@@ -9,11 +9,10 @@ use lib.Dec.{leb}
 use lib.ListN.{length, take, drop, length-append, take-append-drop}
 use lib.Seq.{length-take-le, drop-drop}
 use borrow.Author.Tests.{le-leb, lt-leb}
-use Rattle.io.specs.Counts.{IsPrefixLen}
 use Rattle.io.specs.Digits.{last_digits, IsDigitCount}
 use Rattle.words.specs.Bytes.{splice}
 use Rattle.words.proofs.First.{first_is, first_le}
-use Rattle.words.proofs.Splices.{splice_past, splice_zero}
+use Rattle.words.proofs.Splices.{splice_past}
 use Rattle.lines.specs.Lines.{places, decimal, spaced, line, lines, Put}
 
 -- ---- numbers
@@ -101,12 +100,6 @@ put_then {a} {b} {c} {s} {t} {at} h p q = record {
 -- a text by another name
 pub put_same : {a b s t : List ℕ} {at n : ℕ} → s ≡ t → Put a at s b n → Put a at t b n
 put_same {a} {at = at} e p = record { bytes = p.bytes ∙ ap (splice a at) e; ends = p.ends ∙ ap (λ (l : List ℕ). at + length l) e }
-
--- what was put at the front lies within
-pub put_counts : {a b t : List ℕ} {n : ℕ} → Put a 0 t b n → IsPrefixLen n b
-put_counts {a} {b} {t} {n} p =
-    let h : n ≤ length b = omega (arith, p.ends, ap length (p.bytes ∙ splice_zero a t), length-append t (drop (length t) a)) in
-    (h, sym (length-take-le n b h))
 
 -- nothing put
 pub put_none : (a : List ℕ) (at : ℕ) → Put a at [] a at

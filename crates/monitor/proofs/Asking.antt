@@ -1,4 +1,5 @@
 -- Asking, step by step: what each test of the code says of the plan. Assumes nothing.
+use Rattle.std.specs.Prelude.{None, Option, Some, Ok, Err, Result}
 use mathlib.Core.Path.{◌≡◌, refl, sym, ap, ◌∙◌}
 use mathlib.Core.Bool.{Bool, true, false, cond}
 use mathlib.Core.List.{List}
@@ -8,8 +9,6 @@ use lib.Dec.{ltb, eqb}
 use lib.ListN.{length, get_or, length-map}
 use borrow.Author.Tests.{lt-ltb, le-ltb, ltb-true}
 use Rattle.words.specs.Tables.{Ordered, count_below}
-use Rattle.words.specs.declared.Found.{Found}
-use Rattle.words.specs.declared.Found.TheVariants.{At, Nothing}
 use Rattle.words.proofs.Truth.{no}
 use Rattle.words.proofs.First.{found_at}
 use Rattle.words.proofs.Tables.{table_length, table_at}
@@ -19,46 +18,28 @@ use Rattle.net.specs.Net.{most_sites, State, site_at, action_at, program, names,
 use Rattle.net.specs.Image.{most_of, contents_ok, body_in, sites_in, nodes_in, aspects_in, rows_in, state_in, rules_in}
 use Rattle.net.specs.declared.Site.{Site}
 use Rattle.net.specs.declared.Action.{Action}
-use Rattle.net.specs.declared.Row.{Row}
 use Rattle.net.proofs.Bodies.{entry_of, sites_count}
 use Rattle.format.specs.Verdict.{verdict_of}
-use Rattle.format.specs.declared.Verdict.TheVariants.{Accepted}
 use Rattle.format.proofs.Verdicts.{accepted_right}
-use Rattle.policy.specs.House.{Act, act_of, rules_of, judge}
-use Rattle.stepping.specs.Step.{go, resolved_action, next, going, start, oldest, refuse, put, getting, planned, asking, is_granted}
+use Rattle.policy.specs.House.{act_of, rules_of, judge}
+use Rattle.policy.specs.declared.Act.{Act}
+use Rattle.stepping.specs.Step.{go, resolved_action, next, going, start, refuse, allowed, planned, asking}
 use Rattle.stepping.specs.declared.Answer.{Answer}
-use Rattle.stepping.specs.declared.Answer.TheVariants.{Granted, Done, Denied, NoMatch, NoPlace, NoSite}
-use Rattle.monitor.specs.Plan.{toward, next_in, plan_in}
-use Rattle.monitor.specs.declared.ask.Asked.{Asked}
+use Rattle.stepping.specs.declared.Answer.TheVariants.{Done, Denied, NoPlace, NoSite}
+use Rattle.monitor.specs.Plan.{toward, next_in, plan_of}
+use Rattle.monitor.specs.declared.ask.Grant.{Grant}
 use Rattle.monitor.proofs.Stretches.{action_front, ends_within, owned_length, owned_at}
 
 -- ---- an accepted image: its contents are in order, and its sites are few
-pub contents_of : (b : List ℕ) → verdict_of b ≡ Accepted → contents_ok b ≡ true
+pub contents_of : (b : List ℕ) → verdict_of b ≡ Ok tt → contents_ok b ≡ true
 contents_of b e = (accepted_right b e).contents
 
-pub most_sites_lem : (b : List ℕ) → verdict_of b ≡ Accepted → length (state_in b).sites ≤ most_sites
+pub most_sites_lem : (b : List ℕ) → verdict_of b ≡ Ok tt → length (state_in b).sites ≤ most_sites
 unfolding most_of
 most_sites_lem b e = let ok = contents_of b e in omega (arith, sites_count b ok, (entry_of b ok 1 (omega arith) (omega arith)).most)
 
-pub few-sites : (b : List ℕ) → verdict_of b ≡ Accepted → {t : ℕ} → t < length (state_in b).sites → t < 32
+pub few-sites : (b : List ℕ) → verdict_of b ≡ Ok tt → {t : ℕ} → t < length (state_in b).sites → t < 32
 few-sites b e h = omega (arith, most_sites_lem b e)
-
--- ---- an answer that is no grant
-pub plan_refused : (x : Asked) (i : ℕ) (a : Answer) → x.answer ≡ a → is_granted a ≡ false → plan_in i x ≡ refuse a
-unfolding plan_in
-plan_refused x i a e n = rw (e, n)
-
--- ---- step 5
-module _ (i t : ℕ) (a : Action) (l : List Row) (n : eqb a.capability 1 ≡ false) where
-  abbrev Allows : Asked → Type 0
-  Allows x = plan_in i x ≡ cond (eqb a.capability 1) (put (act_of i t a)) (getting (act_of i t a) (oldest t a l))
-
-  pub allowed_none : (x : Asked) → x.answer ≡ NoMatch → {f : Found} → f ≡ oldest t a l → f ≡ Nothing → Allows x
-  allowed_none x e p q = rw (n, ← p, q) (plan_refused x i NoMatch e refl)
-
-  pub allowed-row : (k : ℕ) {f : Found} → f ≡ oldest t a l → f ≡ At k → Allows (record { answer = Granted; target = t; row = k; action = a })
-  unfolding plan_in
-  allowed-row k p q = rw (n, ← p, q)
 
 -- ---- step 4
 module _ (image : List ℕ) {sites nodes aspects rows : List ℕ} {g : Bool} (act : Act)
@@ -67,46 +48,44 @@ module _ (image : List ℕ) {sites nodes aspects rows : List ℕ} {g : Bool} (ac
   grants_is : g ≡ grants (judge (rules_in image) (state_in image).sites (state_in image).rows act)
   grants_is = v ∙ rw (e₁, e₂, e₃, e₅)
 
-  pub judged-granted : (x : Asked) (i : ℕ) → g ≡ true
-      → plan_in i x ≡ cond (eqb act.action.capability 1) (put act) (getting act (oldest act.target act.action (rows_in rows)))
-      → plan_in i x ≡ planned (rules_in image) (state_in image) (go act)
-  judged-granted x i y p = rw (← grants_is, y) (p ∙ rw e₅)
+  pub judged-granted : (x : Result Grant Answer) → g ≡ true → plan_of x ≡ allowed (state_in image) act → plan_of x ≡ planned (rules_in image) (state_in image) (go act)
+  judged-granted x y p = rw (← grants_is, y) p
 
-  pub judged_denied : (x : Asked) (i : ℕ) → g ≡ false → x.answer ≡ Denied → plan_in i x ≡ planned (rules_in image) (state_in image) (go act)
-  judged_denied x i y p = rw (← grants_is, y) (plan_refused x i Denied p refl)
+  pub judged_denied : g ≡ false → refuse Denied ≡ planned (rules_in image) (state_in image) (go act)
+  judged_denied y = rw (← grants_is, y)
 
 -- ---- step 3
-module _ (image : List ℕ) (a : Action) {sites : List ℕ} {f : Found} (e : sites ≡ body_in image 1) (p : f ≡ place_of (names (sites_in sites)) a.target.value) where
+module _ (image : List ℕ) (a : Action) {sites : List ℕ} {f : Option ℕ} (e : sites ≡ body_in image 1) (p : f ≡ place_of (names (sites_in sites)) a.target.value) where
   place_is : f ≡ place_of (names (state_in image).sites) a.target.value
   place_is = p ∙ rw e
 
-  pub placed_inside : (t : ℕ) → f ≡ At t → t < length (state_in image).sites
+  pub placed_inside : (t : ℕ) → f ≡ Some t → t < length (state_in image).sites
   unfolding place_of
   placed_inside t q =
       rw (length-map (state_in image).sites (λ x. x.name)) at
       (found_at (λ k. eqb (get_or (names (state_in image).sites) k 0) a.target.value) (length (names (state_in image).sites)) t (sym place_is ∙ q)).0
 
-module _ (image : List ℕ) (i : ℕ) (a : Action) {sites : List ℕ} {f : Found} (e : sites ≡ body_in image 1) (p : f ≡ place_of (names (sites_in sites)) a.target.value) (x : Asked) where
-  abbrev Placed : Type 0
-  Placed = plan_in i x ≡ planned (rules_in image) (state_in image) (toward i a (place_of (names (state_in image).sites) a.target.value))
+module _ (image : List ℕ) (i : ℕ) (a : Action) {sites : List ℕ} {f : Option ℕ} (e : sites ≡ body_in image 1) (p : f ≡ place_of (names (sites_in sites)) a.target.value) where
+  abbrev pub Placed : Result Grant Answer → Type 0
+  Placed x = plan_of x ≡ planned (rules_in image) (state_in image) (toward i a (place_of (names (state_in image).sites) a.target.value))
 
-  pub placed_none : f ≡ Nothing → x.answer ≡ NoPlace → Placed
-  placed_none q w = rw (← place_is image a e p, q) (plan_refused x i NoPlace w refl)
+  pub placed_none : f ≡ None → Placed (Err NoPlace)
+  placed_none q = rw (← place_is image a e p, q)
 
-  pub placed_there : (t : ℕ) → f ≡ At t → plan_in i x ≡ planned (rules_in image) (state_in image) (go (act_of i t a)) → Placed
-  placed_there t q w = rw (← place_is image a e p, q) w
+  pub placed_there : (x : Result Grant Answer) (t : ℕ) → f ≡ Some t → plan_of x ≡ planned (rules_in image) (state_in image) (go (act_of i t a)) → Placed x
+  placed_there x t q w = rw (← place_is image a e p, q) w
 
-toward-going : (s : State) (i : ℕ) (f : Found) → toward i (next s i) f ≡ going s i f
-toward-going s i (At t) = refl
-toward-going s i Nothing = refl
+toward-going : (s : State) (i : ℕ) (f : Option ℕ) → toward i (next s i) f ≡ going s i f
+toward-going s i (Some t) = refl
+toward-going s i None = refl
 
 -- ---- steps 1 and 2
 -- a search that finds k exactly if b holds, by what it found
-none_of : (b : Bool) (k : ℕ) {f : Found} → f ≡ cond b (At k) Nothing → f ≡ Nothing → b ≡ false
+none_of : (b : Bool) (k : ℕ) {f : Option ℕ} → f ≡ cond b (Some k) None → f ≡ None → b ≡ false
 none_of true k e q = no (cc)
 none_of false k e q = refl
 
-some_of : (b : Bool) {j k : ℕ} {f : Found} → f ≡ cond b (At k) Nothing → f ≡ At j → (b ≡ true) × (j ≡ k)
+some_of : (b : Bool) {j k : ℕ} {f : Option ℕ} → f ≡ cond b (Some k) None → f ≡ Some j → (b ≡ true) × (j ≡ k)
 some_of true e q = (refl, cc)
 some_of false e q = no (cc)
 
@@ -128,12 +107,12 @@ module _ (image : List ℕ) (i : ℕ) where
   site_read x e r h =
       r ∙ rw e (sym (table_at read_site site_width (body_in image 1) i no_site (rw (table_length read_site site_width (body_in image 1)) at h)))
 
-  pub asked_no_site : (x : Asked) → length s.sites ≤ i → x.answer ≡ NoSite → plan_in i x ≡ asking (rules_in image) s i
+  pub asked_no_site : length s.sites ≤ i → refuse NoSite ≡ asking (rules_in image) s i
   unfolding asking start
-  asked_no_site x h e = rw (le-ltb i (length s.sites) h) (plan_refused x i NoSite e refl)
+  asked_no_site h = rw (le-ltb i (length s.sites) h)
 
   -- what the search for the next action finds
-  module _ (h : i < length s.sites) (order : Ordered action_width b) {site : Site} {actions : List ℕ} {f : Found} (e₁ : site ≡ site_at s.sites i) (e₄ : actions ≡ b)
+  module _ (h : i < length s.sites) (order : Ordered action_width b) {site : Site} {actions : List ℕ} {f : Option ℕ} (e₁ : site ≡ site_at s.sites i) (e₄ : actions ≡ b)
       (e : f ≡ next_in actions i site.position) where
     abbrev p : ℕ
     p = (site_at s.sites i).position
@@ -144,11 +123,11 @@ module _ (image : List ℕ) (i : ℕ) where
     found_is : f ≡ next_in b i p
     found_is = e ∙ rw (e₁, e₄)
 
-    pub asked_done : f ≡ Nothing → (x : Asked) → x.answer ≡ Done → plan_in i x ≡ asking (rules_in image) s i
+    pub asked_done : f ≡ None → refuse Done ≡ asking (rules_in image) s i
     unfolding asking start
-    asked_done q x r = rw (lt-ltb i (length s.sites) h, none_of (ltb p many) (first + p) found_is q) (plan_refused x i Done r refl)
+    asked_done q = rw (lt-ltb i (length s.sites) h, none_of (ltb p many) (first + p) found_is q)
 
-    module _ {k : ℕ} (q : f ≡ At k) where
+    module _ {k : ℕ} (q : f ≡ Some k) where
       goes_on : ltb p many ≡ true
       goes_on = (some_of (ltb p many) found_is q).0
 
@@ -166,8 +145,8 @@ module _ (image : List ℕ) (i : ℕ) where
       next-read : action_at (program i s.actions) p ≡ read_action actions (24 * k)
       next-read = owned_at (λ y. y.owner) no_action read_action action_front action_width b order i p inside ∙ rw ((some_of (ltb p many) found_is q).1, e₄)
 
-      pub asked-next : (x : Asked) (a : Action) → a ≡ resolved_action site.vars (read_action actions (24 * k))
-          → plan_in i x ≡ planned (rules_in image) s (toward i a (place_of (names s.sites) a.target.value)) → plan_in i x ≡ asking (rules_in image) s i
+      pub asked-next : (x : Result Grant Answer) (a : Action) → a ≡ resolved_action site.vars (read_action actions (24 * k))
+          → plan_of x ≡ planned (rules_in image) s (toward i a (place_of (names s.sites) a.target.value)) → plan_of x ≡ asking (rules_in image) s i
       unfolding asking start
       asked-next x a r w =
           let n : a ≡ next s i = r ∙ rw (e₁, ← next-read) in

@@ -1,6 +1,7 @@
--- Doing what asking found: a granted answer stands for a put or a get that memory is ready for, and any other leaves the net. Assumes nothing.
-use mathlib.Core.Path.{◌≡◌, refl, sym, ap, ◌∙◌}
-use mathlib.Core.Bool.{Bool, true, false, cond}
+-- Doing what asking found: a grant stands for a put or a get that memory is ready for, and any other answer leaves the net. Assumes nothing.
+use Rattle.std.specs.Prelude.{Ok}
+use mathlib.Core.Path.{◌≡◌, sym, ap, ◌∙◌}
+use mathlib.Core.Bool.{true}
 use mathlib.Core.List.{List}
 use Prim.Native.Nat.{ℕ, ◌<◌}
 use lib.Dec.{T, eqb}
@@ -8,102 +9,79 @@ use lib.ListN.{length}
 use borrow.Author.Tests.{eqb-true}
 use Rattle.words.specs.Lists.{all}
 use Rattle.words.specs.Bytes.{Bytes}
-use Rattle.words.proofs.Truth.{no, both_left}
+use Rattle.words.proofs.Truth.{both_left}
 use Rattle.net.specs.Records.{site_fits}
 use Rattle.net.specs.Net.{State, Rules, row_at}
-use Rattle.policy.specs.House.{Act, act_of}
+use Rattle.policy.specs.declared.Act.{Act}
 use Rattle.format.proofs.Verdicts.{formed_fits}
-use Rattle.stepping.specs.Step.{Plan, refuse, put, get, has_room, put_after, got_after, asking, done, step, is_granted}
+use Rattle.stepping.specs.Step.{Plan, refuse, put, get, has_room, put_after, got_after, asking, done, step}
 use Rattle.stepping.specs.declared.Answer.{Answer}
-use Rattle.stepping.specs.declared.Answer.TheVariants.{Granted, Done, Denied, NoMatch, NoPlace, NoSite, NoNet}
+use Rattle.stepping.specs.declared.Answer.TheVariants.{Granted}
 use Rattle.stepping.proofs.StepLaws.{Begun, chosen-hits, asked_put, asked_get}
 use Rattle.stepping.proofs.Keeps.{next_small, step_keeps}
 use Rattle.monitor.specs.Memory.{holds_net, rules_held, state_held, memory_with}
-use Rattle.monitor.specs.Plan.{plan_in, Ready}
-use Rattle.monitor.specs.declared.ask.Asked.{Asked}
+use Rattle.monitor.specs.Plan.{plan_of, act_in, Ready}
+use Rattle.monitor.specs.declared.ask.Grant.{Grant}
+use Rattle.monitor.specs.declared.ask.Grant.TheVariants.{Put, Get}
 use Rattle.monitor.proofs.Holding.{held_memory, held_formed}
 
-pub granted_is : (a : Answer) → is_granted a ≡ true → a ≡ Granted
-granted_is Granted e = refl
-granted_is Done e = no (cc)
-granted_is Denied e = no (cc)
-granted_is NoMatch e = no (cc)
-granted_is NoPlace e = no (cc)
-granted_is NoSite e = no (cc)
-granted_is NoNet e = no (cc)
-
 -- ---- the answer of a plan
-plan_answer : (s : State) (i : ℕ) (x : Asked) (b c : Bool)
-    → is_granted x.answer ≡ b
-    → x.answer ≡ (done s (cond b (cond c (put (act_of i x.target x.action)) (get (act_of i x.target x.action) x.row)) (refuse x.answer))).answer
-plan_answer s i x true true e = granted_is x.answer e
-plan_answer s i x true false e = granted_is x.answer e
-plan_answer s i x false c e = refl
+pub granted_answer : (r : Rules) (s : State) (i : ℕ) (x : Grant) → plan_of (Ok x) ≡ asking r s i → Granted ≡ (step r s i).answer
+granted_answer r s i (Put act) p = ap (λ (q : Plan). (done s q).answer) p
+granted_answer r s i (Get act k) p = ap (λ (q : Plan). (done s q).answer) p
 
-pub tried_answer : (r : Rules) (s : State) (i : ℕ) (x : Asked) → plan_in i x ≡ asking r s i → x.answer ≡ (step r s i).answer
-unfolding plan_in
-tried_answer r s i x p =
-    plan_answer s i x (is_granted x.answer) (eqb x.action.capability 1) refl ∙ ap (λ (q : Plan). (done s q).answer) p
+pub refused_answer : (r : Rules) (s : State) (i : ℕ) (a : Answer) → refuse a ≡ asking r s i → a ≡ (step r s i).answer
+refused_answer r s i a p = ap (λ (q : Plan). (done s q).answer) p
+
+-- ---- a grant is of the site that asked
+pub granted_source : (r : Rules) (s : State) (i : ℕ) (x : Grant) → plan_of (Ok x) ≡ asking r s i → (act_in x).source ≡ i
+granted_source r s i (Put act) p = ap (λ (a : Act). a.source) (asked_put r s i act (sym p)).tried
+granted_source r s i (Get act k) p = ap (λ (a : Act). a.source) (asked_get r s i act k (sym p)).tried
 
 -- ---- not granted: the net stays, and so does memory
-pub tried_not : (m : List ℕ) (g : Bytes m) (e : holds_net m ≡ true) (i : ℕ) (x : Asked) → plan_in i x ≡ asking (rules_held m) (state_held m) i → is_granted x.answer ≡ false
+pub tried_not : (m : List ℕ) (g : Bytes m) (e : holds_net m ≡ true) (i : ℕ) (a : Answer) → refuse a ≡ asking (rules_held m) (state_held m) i
     → m ≡ memory_with (rules_held m) (step (rules_held m) (state_held m) i).after
-unfolding plan_in
-tried_not m g e i x p n =
-    let q : refuse x.answer ≡ asking (rules_held m) (state_held m) i = rw n at p in
-    held_memory m g e ∙ ap (λ (y : Plan). memory_with (rules_held m) (done (state_held m) y).after) q
+tried_not m g e i a p = held_memory m g e ∙ ap (λ (y : Plan). memory_with (rules_held m) (done (state_held m) y).after) p
 
 -- ---- granted
-module _ (m : List ℕ) (g : Bytes m) (e : holds_net m ≡ true) (i : ℕ) (x : Asked) (y : is_granted x.answer ≡ true)
-    (p : plan_in i x ≡ asking (rules_held m) (state_held m) i) where
+module _ (m : List ℕ) (g : Bytes m) (e : holds_net m ≡ true) (i : ℕ) (act : Act) where
   abbrev r : Rules
   r = rules_held m
 
   abbrev s : State
   s = state_held m
 
-  abbrev act : Act
-  act = act_of i x.target x.action
-
-  ready : Begun s i x.target → Ready m i x.target
-  ready h = record { held = e; source = h.source; target = h.target; small = next_small s r (held_formed m g e) i x.target h }
+  ready : Begun s i act.target → Ready m i act.target
+  ready h = record { held = e; source = h.source; target = h.target; small = next_small s r (held_formed m g e) i act.target h }
 
   fits_after : (q : Plan) → q ≡ asking r s i → T (all site_fits (done s q).after.sites)
   fits_after q w =
       rw w (formed_fits (record { state = (step r s i).after; rules = r }) (step_keeps r s i (held_formed m g e))).sites
 
-  module _ (c : eqb x.action.capability 1 ≡ true) where
-    put_is : put act ≡ asking r s i
-    unfolding plan_in
-    put_is = rw (y, c) at p
-
-    pub put_ready : Ready m i x.target
-    put_ready = ready (asked_put r s i act (sym put_is)).begun
+  module _ (p : put act ≡ asking r s i) where
+    pub put_ready : Ready m i act.target
+    put_ready = ready (asked_put r s i act (sym p)).begun
 
     pub put_fits : T (all site_fits (put_after s act (has_room s act)).sites)
-    put_fits = fits_after (put act) put_is
+    put_fits = fits_after (put act) p
 
     pub put_done : put_after s act (has_room s act) ≡ (step r s i).after
-    put_done = ap (λ (q : Plan). (done s q).after) put_is
+    put_done = ap (λ (q : Plan). (done s q).after) p
 
-  module _ (c : eqb x.action.capability 1 ≡ false) where
-    get_is : get act x.row ≡ asking r s i
-    unfolding plan_in
-    get_is = rw (y, c) at p
+  module _ (k : ℕ) (p : get act k ≡ asking r s i) where
+    pub get_ready : Ready m i act.target
+    get_ready = ready (asked_get r s i act k (sym p)).begun
 
-    pub get_ready : Ready m i x.target
-    get_ready = ready (asked_get r s i act x.row (sym get_is)).begun
+    pub get_row : k < length s.rows
+    get_row = (chosen-hits act s.rows k (asked_get r s i act k (sym p)).row).0
 
-    pub get_row : x.row < length s.rows
-    get_row = (chosen-hits act s.rows x.row (asked_get r s i act x.row (sym get_is)).row).0
-
-    pub get_owner : (row_at s.rows x.row).owner ≡ x.target
+    pub get_owner : (row_at s.rows k).owner ≡ act.target
     get_owner =
-        let h = (chosen-hits act s.rows x.row (asked_get r s i act x.row (sym get_is)).row).1 in
-        eqb-true (row_at s.rows x.row).owner x.target (both_left (eqb (row_at s.rows x.row).owner x.target) _ h)
+        let h = (chosen-hits act s.rows k (asked_get r s i act k (sym p)).row).1 in
+        eqb-true (row_at s.rows k).owner act.target (both_left (eqb (row_at s.rows k).owner act.target) _ h)
 
-    pub get_fits : T (all site_fits (got_after s act x.row).sites)
-    get_fits = fits_after (get act x.row) get_is
+    pub get_fits : T (all site_fits (got_after s act k).sites)
+    get_fits = fits_after (get act k) p
 
-    pub get_done : got_after s act x.row ≡ (step r s i).after
-    get_done = ap (λ (q : Plan). (done s q).after) get_is
+    pub get_done : got_after s act k ≡ (step r s i).after
+    get_done = ap (λ (q : Plan). (done s q).after) p

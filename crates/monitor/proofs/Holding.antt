@@ -1,5 +1,6 @@
 -- Memory holds a net exactly if loading some accepted image leaves it so: the test finds the image at the front, by the length that its header
 -- says, and zeros behind it. Assumes nothing.
+use Rattle.std.specs.Prelude.{Err, Ok, Result}
 use mathlib.Core.Path.{◌≡◌, refl, sym, ap, ◌∙◌}
 use mathlib.Core.Bool.{true}
 use mathlib.Core.List.{List, [], ◌∷◌, ◌++◌}
@@ -18,24 +19,24 @@ use Rattle.net.proofs.Padding.{length-padded, take-padded, u16_at-padded, u32_at
 use Rattle.net.proofs.Images.{Fits}
 use Rattle.format.specs.Format.{well_formed}
 use Rattle.format.specs.Verdict.{is_accepted, size_ok, verdict_of}
-use Rattle.format.specs.declared.Verdict.{Verdict}
-use Rattle.format.specs.declared.Verdict.TheVariants.{Accepted, Size, Edition, Contents, BadSite, BadNode, BadAspect, BadAction, BadRow, BadState, Small}
+use Rattle.format.specs.declared.Refusal.{Refusal}
+use Rattle.format.specs.declared.Refusal.TheVariants.{Size, Edition, Contents, BadSite, BadNode, BadAspect, BadAction, BadRow, BadState, Small}
 use Rattle.monitor.specs.Memory.{Held, image_in, holds_net, rules_held, state_held, memory_with}
 use Rattle.format.proofs.Verdicts.{Right, accepted_right, accepted_image, image_accepted, net_of_formed, formed_fits}
 
 -- ---- an answer is accepted exactly if its number is 0
-pub is_accepted_lem : (v : Verdict) → is_accepted v ≡ true → v ≡ Accepted
-is_accepted_lem Accepted e = refl
-is_accepted_lem Size e = let z = eqb-true 10 0 e in absurd (let y : ⊥ = omega arith in y)
-is_accepted_lem Edition e = let z = eqb-true 11 0 e in absurd (let y : ⊥ = omega arith in y)
-is_accepted_lem Contents e = let z = eqb-true 12 0 e in absurd (let y : ⊥ = omega arith in y)
-is_accepted_lem (BadSite k) e = let z = eqb-true 13 0 e in absurd (let y : ⊥ = omega arith in y)
-is_accepted_lem (BadNode k) e = let z = eqb-true 14 0 e in absurd (let y : ⊥ = omega arith in y)
-is_accepted_lem (BadAspect k) e = let z = eqb-true 15 0 e in absurd (let y : ⊥ = omega arith in y)
-is_accepted_lem (BadAction k) e = let z = eqb-true 16 0 e in absurd (let y : ⊥ = omega arith in y)
-is_accepted_lem (BadRow k) e = let z = eqb-true 17 0 e in absurd (let y : ⊥ = omega arith in y)
-is_accepted_lem (BadState k) e = let z = eqb-true 18 0 e in absurd (let y : ⊥ = omega arith in y)
-is_accepted_lem Small e = let z = eqb-true 19 0 e in absurd (let y : ⊥ = omega arith in y)
+pub is_accepted_lem : (v : Result Unit Refusal) → is_accepted v ≡ true → v ≡ Ok tt
+is_accepted_lem (Ok x) e = refl
+is_accepted_lem (Err Size) e = let z = eqb-true 10 0 e in absurd (let y : ⊥ = omega arith in y)
+is_accepted_lem (Err Edition) e = let z = eqb-true 11 0 e in absurd (let y : ⊥ = omega arith in y)
+is_accepted_lem (Err Contents) e = let z = eqb-true 12 0 e in absurd (let y : ⊥ = omega arith in y)
+is_accepted_lem (Err (BadSite k)) e = let z = eqb-true 13 0 e in absurd (let y : ⊥ = omega arith in y)
+is_accepted_lem (Err (BadNode k)) e = let z = eqb-true 14 0 e in absurd (let y : ⊥ = omega arith in y)
+is_accepted_lem (Err (BadAspect k)) e = let z = eqb-true 15 0 e in absurd (let y : ⊥ = omega arith in y)
+is_accepted_lem (Err (BadAction k)) e = let z = eqb-true 16 0 e in absurd (let y : ⊥ = omega arith in y)
+is_accepted_lem (Err (BadRow k)) e = let z = eqb-true 17 0 e in absurd (let y : ⊥ = omega arith in y)
+is_accepted_lem (Err (BadState k)) e = let z = eqb-true 18 0 e in absurd (let y : ⊥ = omega arith in y)
+is_accepted_lem (Err Small) e = let z = eqb-true 19 0 e in absurd (let y : ⊥ = omega arith in y)
 
 -- ---- zeros
 zeros_blank : (l : List ℕ) → all_zero l ≡ true → l ≡ blank (length l)
@@ -65,7 +66,7 @@ end_take n m h = rw (u32_at-take n m 40 (omega arith), u16_at-take n m 38 (omega
 -- ---- what memory that holds a net is made of
 pub record Holds (m : List ℕ) : Type 0 where
   pub size : length m ≡ memory_size
-  pub accepted : verdict_of (image_in m) ≡ Accepted
+  pub accepted : verdict_of (image_in m) ≡ Ok tt
   pub whole : length (image_in m) ≡ end_in m
   pub fits : end_in m ≤ memory_size
   pub made : m ≡ padded memory_size (image_in m)
@@ -92,7 +93,7 @@ holds_parts m e =
     }
 
 -- ---- and back
-module _ (b : List ℕ) (a : verdict_of b ≡ Accepted) where
+module _ (b : List ℕ) (a : verdict_of b ≡ Ok tt) where
   passed : Right b
   passed = accepted_right b a
 

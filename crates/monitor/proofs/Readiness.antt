@@ -28,7 +28,7 @@ pub record Space (m : List ℕ) (i t : ℕ) : Type 0 where
 pub sited : (m : List ℕ) (i t : ℕ) → Ready m i t → Sited (image_in m) i t
 sited m i t r =
     let a = (holds_parts m r.held).accepted in
-    record { contents = (accepted_right (image_in m) a).contents; source = r.source; target = r.target; small = r.small; rows = accepted_rows (image_in m) a }
+    record { source = r.source; target = r.target; small = r.small; rows = accepted_rows (image_in m) a }
 
 module _ (m : List ℕ) (g : Bytes m) (i t : ℕ) (r : Ready m i t) where
   pub space : Space m i t

@@ -1,5 +1,6 @@
 -- A run is that many single steps: one step more at the end of the list, and memory holds a net all along, since a step keeps it well formed.
 -- Assumes nothing.
+use Rattle.std.specs.Prelude.{Ok, Err, Result}
 use mathlib.Core.Path.{◌≡◌, refl, sym, ap, ◌∙◌}
 use mathlib.Core.Bool.{Bool, true, false, cond, ◌||◌}
 use mathlib.Core.List.{List, [], ◌∷◌, ◌++◌, map}
@@ -17,8 +18,8 @@ use Rattle.stepping.specs.Step.{step, answers, final, number_of}
 use Rattle.stepping.specs.declared.Answer.{Answer}
 use Rattle.stepping.proofs.Keeps.{run_keeps}
 use Rattle.monitor.specs.Memory.{rules_held, state_held, memory_with, holds_net, most_steps, run_answer, run_memory, run_answers}
-use Rattle.monitor.specs.declared.Ran.{Ran}
-use Rattle.monitor.specs.declared.Ran.TheVariants.{Through, Long, NoNet}
+use Rattle.monitor.specs.declared.RunError.{RunError}
+use Rattle.monitor.specs.declared.RunError.TheVariants.{Long, NoNet}
 use Rattle.monitor.proofs.Holding.{memory_holds, rules_back, state_back}
 
 -- ---- one step more at the end
@@ -88,7 +89,7 @@ module _ (m steps out : List ℕ) where
   abbrev long : Bool
   long = ltb most_steps (length steps) || ltb (length out) (length steps)
 
-  abbrev pub Ends : Ran → List ℕ → List ℕ → Type 0
+  abbrev pub Ends : Result Unit RunError → List ℕ → List ℕ → Type 0
   Ends v m₁ out₁ = (v ≡ run_answer m steps (length out)) × ((m₁ ≡ run_memory m steps (length out)) × (out₁ ≡ run_answers m steps out))
 
   -- past the first test there is room for every answer
@@ -99,16 +100,16 @@ module _ (m steps out : List ℕ) where
       second true b q = no (ap (λ (z : Bool). cond z 1 0) (sym q))
       second false b q = q
 
-  pub run_long : long ≡ true → Ends Long m out
+  pub run_long : long ≡ true → Ends (Err Long) m out
   unfolding run_answer run_memory run_answers
   run_long e = (rw e, (rw e, rw e))
 
-  pub run_none : long ≡ false → holds_net m ≡ false → Ends NoNet m out
+  pub run_none : long ≡ false → holds_net m ≡ false → Ends (Err NoNet) m out
   unfolding run_answer run_memory run_answers
   run_none e h = (rw (e, h), (rw (e, h), rw (e, h)))
 
   pub run_through : long ≡ false → holds_net m ≡ true → {m₁ out₁ : List ℕ} (k : ℕ) → k ≡ length steps → m₁ ≡ memory_with (rules_held m) (state_at (rules_held m) (state_held m) steps k)
-      → out₁ ≡ numbers_at (rules_held m) (state_held m) steps k ++ drop k out → Ends Through m₁ out₁
+      → out₁ ≡ numbers_at (rules_held m) (state_held m) steps k ++ drop k out → Ends (Ok tt) m₁ out₁
   unfolding run_answer run_memory run_answers
   run_through e h k q w a =
       (rw (e, h), (w ∙ rw (e, h, q, take-length steps), a ∙ rw (e, h, q, take-length steps)))

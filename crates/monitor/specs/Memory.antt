@@ -1,24 +1,24 @@
 -- The public calls, on memory: what each answers, and what it leaves in every lent byte. Assumes nothing.
-use Rattle.std.specs.Prelude.{◌≡◌, ℕ, Bool, cond, ◌&&◌, ◌||◌, List, ◌++◌, map, ltb, eqb, length, take, drop}
+use Rattle.std.specs.Prelude.{◌≡◌, ℕ, Bool, cond, ◌&&◌, ◌||◌, List, ◌++◌, map, ltb, eqb, length, take, drop, Result, Ok, Err}
 use Rattle.words.specs.Bytes.{Bytes, all_zero, padded, splice}
 use Rattle.words.specs.Tables.{starts_of}
 use Rattle.net.specs.Records.{row_width}
 use Rattle.net.specs.Net.{State, Rules}
 use Rattle.net.specs.Image.{memory_size, memory_of, end_in, body_in, state_in, rules_in}
 use Rattle.format.specs.Verdict.{is_accepted, verdict_of}
-use Rattle.format.specs.declared.Verdict.{Verdict}
-use Rattle.format.specs.declared.Verdict.TheVariants.{Accepted, Small}
+use Rattle.format.specs.declared.Refusal.{Refusal}
+use Rattle.format.specs.declared.Refusal.TheVariants.{Small}
 use Rattle.stepping.specs.Step.{step, answers, final, number_of}
 use Rattle.stepping.specs.declared.Answer.{Answer}
 use Rattle.stepping.specs.declared.Answer.TheVariants.{NoNet}
-use Rattle.monitor.specs.declared.Saved.{Saved}
-use Rattle.monitor.specs.declared.Saved.TheVariants.{Whole, Room, NoNet as SavedNoNet}
-use Rattle.monitor.specs.declared.Ran.{Ran}
-use Rattle.monitor.specs.declared.Ran.TheVariants.{Through, Long, NoNet as RanNoNet}
+use Rattle.monitor.specs.declared.SaveError.{SaveError}
+use Rattle.monitor.specs.declared.SaveError.TheVariants.{Room, NoNet as SaveNoNet}
+use Rattle.monitor.specs.declared.RunError.{RunError}
+use Rattle.monitor.specs.declared.RunError.TheVariants.{Long, NoNet as RunNoNet}
 
 -- ---- load: "19 SMALL (memory not 65,536 bytes)", then check's; accepted, memory is the image and then zeros
-unfoldable pub load_answer : List ℕ → List ℕ → Verdict
-load_answer image m = cond (eqb (length m) memory_size) (verdict_of image) Small
+unfoldable pub load_answer : List ℕ → List ℕ → Result Unit Refusal
+load_answer image m = cond (eqb (length m) memory_size) (verdict_of image) (Err Small)
 
 unfoldable pub load_memory : List ℕ → List ℕ → List ℕ
 load_memory image m = cond (is_accepted (load_answer image m)) (padded memory_size image) m
@@ -27,7 +27,7 @@ load_memory image m = cond (is_accepted (load_answer image m)) (padded memory_si
 pub record Held (m : List ℕ) : Type 0 where
   pub image : List ℕ
   pub bytes : Bytes image
-  pub accepted : verdict_of image ≡ Accepted
+  pub accepted : verdict_of image ≡ Ok tt
   pub left : m ≡ padded memory_size image
 
 -- the test that decides it: an accepted image at the front, as long as its header says, and zeros behind it
@@ -53,18 +53,17 @@ abbrev pub memory_with : Rules → State → List ℕ
 memory_with r s = memory_of (record { state = s; rules = r })
 
 -- ---- save: "6 NONET, 20 ROOM (output too short), 0 with the length; bytes beyond unchanged"
-abbrev pub saved_number : Saved → ℕ
-saved_number (Whole n) = 0
-saved_number SavedNoNet = 6
-saved_number Room = 20
+abbrev pub saved_number : Result ℕ SaveError → ℕ
+saved_number (Ok n) = 0
+saved_number (Err SaveNoNet) = 6
+saved_number (Err Room) = 20
 
-abbrev pub saved_length : Saved → ℕ
-saved_length (Whole n) = n
-saved_length SavedNoNet = 0
-saved_length Room = 0
+abbrev pub saved_length : Result ℕ SaveError → ℕ
+saved_length (Ok n) = n
+saved_length (Err e) = 0
 
-unfoldable pub save_answer : List ℕ → ℕ → Saved
-save_answer m room = cond (holds_net m) (cond (ltb room (end_in m)) Room (Whole (end_in m))) SavedNoNet
+unfoldable pub save_answer : List ℕ → ℕ → Result ℕ SaveError
+save_answer m room = cond (holds_net m) (cond (ltb room (end_in m)) (Err Room) (Ok (end_in m))) (Err SaveNoNet)
 
 unfoldable pub save_output : List ℕ → List ℕ → List ℕ
 save_output m out = cond (eqb (saved_number (save_answer m (length out))) 0) (splice out 0 (image_in m)) out
@@ -77,16 +76,17 @@ unfoldable pub step_memory : List ℕ → ℕ → List ℕ
 step_memory m i = cond (holds_net m) (memory_with (rules_held m) (step (rules_held m) (state_held m) i).after) m
 
 -- ---- run: "7 LONG (over 4,096 steps, or fewer answer bytes than steps), 6 NONET, else 0 and one step answer each, answer bytes beyond unchanged"
-abbrev pub ran_number : Ran → ℕ
-ran_number Through = 0
-ran_number Long = 7
-ran_number RanNoNet = 6
+abbrev pub ran_number : Result Unit RunError → ℕ
+ran_number (Ok x) = 0
+ran_number (Err Long) = 7
+ran_number (Err RunNoNet) = 6
 
 abbrev pub most_steps : ℕ
 most_steps = 4096
 
-unfoldable pub run_answer : List ℕ → List ℕ → ℕ → Ran
-run_answer m steps room = cond (ltb most_steps (length steps) || ltb room (length steps)) Long (cond (holds_net m) Through RanNoNet)
+unfoldable pub run_answer : List ℕ → List ℕ → ℕ → Result Unit RunError
+run_answer m steps room =
+    cond (ltb most_steps (length steps) || ltb room (length steps)) (Err Long) (cond (holds_net m) (Ok tt) (Err RunNoNet))
 
 -- every step, in order, on the net that memory holds
 unfoldable pub run_memory : List ℕ → List ℕ → ℕ → List ℕ

@@ -7,28 +7,32 @@
 mod act;
 mod ask;
 
-ghost use Rattle.std.specs.Prelude.{◌≡◌, true, ◌+◌, ◌<◌, length};
+ghost use Rattle.std.specs.Prelude.{◌≡◌, true, false, length, MatchOption};
+ghost use Rattle.words.specs.Tables.{starts_of};
+ghost use Rattle.net.specs.Records.{row_width};
+ghost use Rattle.net.specs.Image.{body_in};
 ghost use Rattle.format.specs.Verdict.{verdict_of, body_of, body_place};
-ghost use Rattle.stepping.specs.Step.{asking, step};
-ghost use Rattle.monitor.specs.Memory.{load_answer, load_memory, holds_net, rules_held, state_held, starts_held, memory_with, save_answer, save_output, step_answer, step_memory, run_answer, run_memory, run_answers};
-ghost use Rattle.monitor.specs.Plan.{plan_in, starts_after, Countable};
+ghost use Rattle.stepping.specs.Step.{step};
+ghost use Rattle.monitor.specs.Memory.{image_in, holds_net, rules_held, state_held, starts_held, memory_with};
+ghost use Rattle.monitor.specs.Memory.{load_answer, load_memory, save_answer, save_output, step_answer, step_memory, run_answer, run_memory, run_answers};
+ghost use Rattle.monitor.specs.Plan.{starts_after, Countable};
 
-use ask::Asked;
-use format::Verdict;
+use ask::{Grant, Net};
+use format::{Image, Kind, Refusal, Verdict};
+use net::{Capability, Record, Row};
+use policy::Act;
 use stepping::Answer;
 
-// What saving answers: 0 with the length, 6 NONET, 20 ROOM.
-#[derive(Clone, Copy)]
-pub enum Saved {
-    Whole(usize),
+// Why nothing is saved: 6 NONET, 20 ROOM.
+#[derive(Clone, Copy, PartialEq, Eq, Debug)]
+pub enum SaveError {
     NoNet,
     Room,
 }
 
-// What running answers: 0, 7 LONG, 6 NONET.
-#[derive(Clone, Copy)]
-pub enum Ran {
-    Through,
+// Why nothing is run: 7 LONG, 6 NONET.
+#[derive(Clone, Copy, PartialEq, Eq, Debug)]
+pub enum RunError {
     Long,
     NoNet,
 }
@@ -60,98 +64,84 @@ pub fn load(image: &[u8], memory: &mut [u8]) -> Verdict
     ensures memory_after { memory.new ≡ load_memory image.now memory.old }
 {
     if memory.len() != MEMORY {
-        return Verdict::Small;
+        return Err(Refusal::Small);
     }
-    let verdict = format::check(image);
-    if format::number(verdict) != 0 {
-        return verdict;
-    }
+    format::check(image)?;
     words::fill(memory, image);
-    verdict
+    Ok(())
 }
 
-// Whether memory holds a net.
-fn holds(memory: &[u8]) -> bool
-    ensures { result ≡ holds_net memory.now }
+// The image of the net that memory holds, if it holds one.
+fn held(memory: &[u8]) -> Option<Image<'_>>
+    ensures { MatchOption result (holds_net memory.now ≡ false) (λ image. (image.bytes.now ≡ image_in memory.now) × (holds_net memory.now ≡ true)) }
 {
     if memory.len() != MEMORY {
-        return false;
+        return None;
     }
     let end = format::end(memory);
     if MEMORY < end {
-        return false;
+        return None;
     }
-    if format::number(format::check(&memory[0..end])) != 0 {
-        return false;
-    }
-    words::zeros_from(memory, end)
+    let image = format::accepted(&memory[..end])?;
+    words::zeros_from(memory, end).then_some(image)
 }
 
 // Writes the image of the net that memory holds.
-pub fn save(memory: &[u8], out: &mut [u8]) -> Saved
+pub fn save(memory: &[u8], out: &mut [u8]) -> Result<usize, SaveError>
     ensures value { result ≡ save_answer memory.now (length out.old) }
     ensures out_after { out.new ≡ save_output memory.now out.old }
 {
-    if !holds(memory) {
-        return Saved::NoNet;
+    let image = held(memory).ok_or(SaveError::NoNet)?.bytes;
+    if out.len() < image.len() {
+        return Err(SaveError::Room);
     }
-    let end = format::end(memory);
-    if out.len() < end {
-        return Saved::Room;
-    }
-    words::put(out, 0, &memory[0..end]);
-    Saved::Whole(end)
+    words::put(out, 0, image);
+    Ok(image.len())
 }
 
-// Where the rows of each site start, in memory that holds a net.
-fn starts_of(memory: &[u8]) -> [u16; 33]
-    requires { holds_net memory.now ≡ true }
-    ensures { result ≡ starts_held memory.now }
+// Where the rows of each site start.
+fn starts_of(image: Image<'_>) -> [u16; 33]
+    ensures { result ≡ starts_of row_width (body_in image.entry.bytes.now 5) }
 {
-    let image = act::image_of(memory);
-    words::starts(format::part(image, 5), 10)
+    words::starts(image.body(Kind::Rows), Row::WIDTH)
 }
 
-// What a site would do, on memory that holds a net.
-fn asked(memory: &[u8], starts: &[u16; 33], site: usize) -> Asked
-    requires { (holds_net memory.now ≡ true) × (starts.now ≡ starts_held memory.now) }
-    ensures { plan_in site result ≡ asking (rules_held memory.now) (state_held memory.now) site }
+// Keeps the starts of rows right for a grant: a put with room for its row adds one at its target, a take takes one out.
+#[tactic(auto, unfolding(crate::specs::Plan::starts_after))]
+fn recount(starts: &mut [u16; 33], act: &Act)
+    requires { Countable act.now.action.capability act.now.target starts.old }
+    ensures { starts.new ≡ starts_after act.now.action.capability act.now.target starts.old }
 {
-    let image = act::image_of(memory);
-    ask::ask(image, starts, site)
-}
-
-// Keeps the starts of rows right for a grant at site t: a put with room for its row adds one there, a take takes one out.
-fn recount(starts: &mut [u16; 33], capability: u8, t: usize)
-    requires { Countable capability t starts.old }
-    ensures { starts.new ≡ starts_after capability t starts.old }
-{
-    if capability == 1 {
-        if starts[t + 1] - starts[t] < format::STORE_LIMIT as u16 {
-            words::starts_more(starts, t);
+    let t = act.target;
+    if act.action.does(Capability::Put) {
+        if usize::from(starts[t + 1] - starts[t]) < format::STORE_LIMIT {
+            words::move_starts::<true>(starts, t);
         }
-        return;
-    }
-    if capability == 2 {
-        words::starts_less(starts, t);
+    } else if act.action.does(Capability::Take) {
+        words::move_starts::<false>(starts, t);
     }
 }
 
-// One step of a site on memory that holds a net, with the starts of its rows kept right.
+// One step of a site on memory that holds a net, with the starts of its rows kept right. What memory holds stands in the contract and not in a
+// struct round memory and starts: of bytes behind a field that is `&mut` the check does not know that they are bytes.
 fn tried(memory: &mut [u8], starts: &mut [u16; 33], site: usize) -> Answer
     requires { (holds_net memory.old ≡ true) × (starts.old ≡ starts_held memory.old) }
     ensures value { result ≡ (step (rules_held memory.old) (state_held memory.old) site).answer }
     ensures memory_after { memory.new ≡ memory_with (rules_held memory.old) (step (rules_held memory.old) (state_held memory.old) site).after }
     ensures starts_kept { starts.new ≡ starts_held memory.new }
 {
-    let asked = asked(memory, starts, site);
-    let answer = asked.answer;
-    if stepping::number(answer) == 0 {
-        let action = asked.action;
-        recount(starts, action.capability, asked.target);
-        act::act(memory, site, asked);
+    let net = Net {
+        image: act::image_of(memory),
+        starts,
+    };
+    match net.ask(site) {
+        Ok(grant) => {
+            recount(starts, grant.act());
+            act::act(memory, &grant);
+            Answer::Granted
+        }
+        Err(answer) => answer,
     }
-    answer
 }
 
 // Tries the next action of a site.
@@ -159,31 +149,26 @@ pub fn step(memory: &mut [u8], site: usize) -> Answer
     ensures value { result ≡ step_answer memory.old site }
     ensures memory_after { memory.new ≡ step_memory memory.old site }
 {
-    if !holds(memory) {
+    let Some(image) = held(memory) else {
         return Answer::NoNet;
-    }
-    let mut starts = starts_of(memory);
+    };
+    let mut starts = starts_of(image);
     tried(memory, &mut starts, site)
 }
 
 // One step for each byte of `steps`, in order: memory is checked once, and once is worked out where the rows of each site start.
-pub fn run(memory: &mut [u8], steps: &[u8], answers: &mut [u8]) -> Ran
+pub fn run(memory: &mut [u8], steps: &[u8], answers: &mut [u8]) -> Result<(), RunError>
     ensures value { result ≡ run_answer memory.old steps.now (length answers.old) }
     ensures memory_after { memory.new ≡ run_memory memory.old steps.now (length answers.old) }
     ensures answers_after { answers.new ≡ run_answers memory.old steps.now answers.old }
 {
     if (STEPS < steps.len()) | (answers.len() < steps.len()) {
-        return Ran::Long;
+        return Err(RunError::Long);
     }
-    if !holds(memory) {
-        return Ran::NoNet;
+    let image = held(memory).ok_or(RunError::NoNet)?;
+    let mut starts = starts_of(image);
+    for (i, &site) in steps.iter().enumerate() {
+        answers[i] = u8::from(tried(memory, &mut starts, usize::from(site)));
     }
-    let mut starts = starts_of(memory);
-    let mut i = 0;
-    while i < steps.len() {
-        let answer = tried(memory, &mut starts, steps[i] as usize);
-        answers[i] = stepping::number(answer);
-        i += 1;
-    }
-    Ran::Through
+    Ok(())
 }

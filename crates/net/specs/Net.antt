@@ -1,8 +1,6 @@
 -- What a net is: five flat lists of records, in the image's order, each record with its owner inside. Assumes nothing.
-use Rattle.std.specs.Prelude.{ℕ, ◌<◌, Bool, true, false, List, ◌∷◌, map, eqb, length, get_or, take}
+use Rattle.std.specs.Prelude.{ℕ, ◌<◌, Bool, true, false, List, ◌∷◌, map, eqb, length, get_or, take, None, Option, Some}
 use Rattle.words.specs.Lists.{first, those, count}
-use Rattle.words.specs.declared.Found.{Found}
-use Rattle.words.specs.declared.Found.TheVariants.{At, Nothing}
 use Rattle.net.specs.Records.{no_site, no_node, no_aspect, no_action, no_row}
 use Rattle.net.specs.declared.Operand.{Operand}
 use Rattle.net.specs.declared.Site.{Site}
@@ -86,7 +84,7 @@ abbrev pub names : List Site → List ℕ
 names = map (λ x. x.name)
 
 -- the number of the site that has a name
-unfoldable pub place_of : List ℕ → ℕ → Found
+unfoldable pub place_of : List ℕ → ℕ → Option ℕ
 place_of l wanted = first (λ k. eqb (get_or l k 0) wanted) (length l)
 
 -- names that rise, as those of an accepted net do, so that one is found by halving
@@ -94,13 +92,13 @@ abbrev pub Rising : List ℕ → Type 0
 Rising l = (i j : ℕ) → i < j → j < length l → get_or l i 0 < get_or l j 0
 
 -- a place is there; it is site i
-abbrev pub is_there : Found → Bool
-is_there (At k) = true
-is_there Nothing = false
+abbrev pub is_there : Option ℕ → Bool
+is_there (Some k) = true
+is_there None = false
 
-abbrev pub is_at : ℕ → Found → Bool
-is_at i (At k) = eqb i k
-is_at i Nothing = false
+abbrev pub is_at : ℕ → Option ℕ → Bool
+is_at i (Some k) = eqb i k
+is_at i None = false
 
 -- ---- operands: "0 name, 1 variable 0..7, 2 binds variable 0..7, 3 any, 4 binder"
 abbrev pub is_name : Operand → Bool

@@ -17,7 +17,8 @@ use Rattle.net.specs.declared.Node.{Node}
 use Rattle.net.specs.declared.Site.{Site}
 use Rattle.net.specs.declared.Row.{Row}
 use Rattle.net.specs.declared.Aspect.{Aspect}
-use Rattle.policy.specs.House.{Act, ask, ask_of, terms_in, traps, taken, yes, advice, row_of, value_at, gives, mandatory, policy, judge}
+use Rattle.policy.specs.declared.Act.{Act}
+use Rattle.policy.specs.House.{ask, ask_of, terms_in, traps, taken, yes, advice, row_of, value_at, gives, mandatory, policy, judge}
 
 module _ (sites : List Site) (rows : List Row) (act : Act) (x : Aspect) where
   -- asked with the terms of the action, what the cut took, and the whole table
@@ -50,7 +51,8 @@ module _ (r : Rules) (sites : List Site) (rows : List Row) (act : Act) where
   pub judged : {a b c : Bool} → grants ruled ≡ a → grants (says act.source) ≡ b → grants (says act.target) ≡ c → (a && (b && c)) ≡ grants (judge r sites rows act)
   unfolding judge
   judged e f g =
-      rw (← e, ← f, ← g) (sym (grants_gather ruled (gather_of (says act.source) (says act.target)) ∙ ap (λ (x : Bool). grants ruled && x) (grants_gather (says act.source) (says act.target))))
+      rw (← e, ← f, ← g) (sym (grants_gather ruled (gather_of (says act.source) (says act.target))
+      ∙ ap (λ (x : Bool). grants ruled && x) (grants_gather (says act.source) (says act.target))))
 
   -- without aspects a policy says nothing
   pub says_nothing : r.aspects ≡ [] → (site : ℕ) → grants (says site) ≡ true

@@ -3,7 +3,6 @@ pub mod Owned
 pub mod Tested
 pub mod Four
 pub mod Places
-pub mod Eight
 pub mod Mandatory
 pub mod Sorts
 pub mod Values

@@ -14,16 +14,17 @@ use lib.Seq.{take_all, take-append-le}
 use Rattle.belnap.specs.Belnap.{gather_of, grants}
 use Rattle.belnap.proofs.Laws.{either_lt, gather_lt, gather_grants, gather_both}
 use Rattle.words.specs.Lists.{fill, all, those}
-use Rattle.words.proofs.Lists.{length-fill, fill_at, fill_same, all_map}
+use Rattle.words.proofs.Lists.{length-fill, fill_at, fill_same}
 use Rattle.net.specs.Records.{no_node}
 use Rattle.net.specs.Net.{Rules, node_at, house}
 use Rattle.net.specs.declared.Node.{Node}
 use Rattle.net.specs.declared.Site.{Site}
 use Rattle.net.specs.declared.Row.{Row}
 use Rattle.net.specs.declared.Aspect.{Aspect}
-use Rattle.policy.specs.House.{Act, Ask, ask_of, terms_in, traps, yes, advice, value_of, row_of, value_at, gives, gather_all, mandatory, policy, judge}
+use Rattle.policy.specs.declared.Act.{Act}
+use Rattle.policy.specs.House.{Ask, ask_of, terms_in, traps, yes, advice, value_of, row_of, value_at, gives, gather_all, mandatory, policy, judge}
 use Rattle.policy.specs.Adding.{Adds}
-use Rattle.policy.proofs.Mandatory.{grants-all, gathered_lt, mandatory-value}
+use Rattle.policy.proofs.Mandatory.{each_grants, gathered_lt, mandatory-value}
 
 -- ---- a longer table
 module _ (q : Ask) (ns more : List Node) where
@@ -67,7 +68,7 @@ pub policy-grants : (nodes : List Node) (sites : List Site) (rows : List Row) (a
     → grants (policy nodes sites rows act site l) ≡ all (λ a. grants (gives nodes sites rows act a)) (house site l)
 unfolding policy
 policy-grants nodes sites rows act site l =
-    grants-all (map (gives nodes sites rows act) (house site l)) ∙ all_map (gives nodes sites rows act) grants (house site l)
+    each_grants (gives nodes sites rows act) (house site l)
 
 gathered_each : (g : Aspect → ℕ) (l : List Aspect) → T (grants (gather_all (map g l))) → (a : Aspect) → Memᴰ a l → T (grants (g a))
 gathered_each g [] t a h = elim h [ ]

@@ -1,26 +1,17 @@
 -- The records of one owner, in a body whose owners never fall: the stretch between the two places that a search by halving finds.
 -- Assumes nothing.
-use mathlib.Core.Path.{◌≡◌, ◌∙◌}
+use mathlib.Core.Path.{◌≡◌}
 use mathlib.Core.List.{List}
-use Prim.Native.Nat.{ℕ, suc, ◌+◌, ◌-◌, ◌*◌, ◌/◌, ◌≤◌, ◌<◌}
+use Prim.Native.Nat.{ℕ, suc, ◌+◌, ◌-◌, ◌/◌, ◌≤◌}
 use native.Mathlib.Omega.{arith}
 use native.Mathlib.Numerals.{add-one}
 use lib.Dec.{eqb}
-use lib.ListN.{length, get_or, take, drop, length-drop}
-use lib.Seq.{get_or-drop}
+use lib.ListN.{length, get_or, take, drop}
 use Rattle.words.specs.Lists.{those}
 use Rattle.words.specs.Tables.{table_of, Ordered, count_below}
-use Rattle.words.proofs.Tables.{table_length, table_at}
+use Rattle.words.proofs.Tables.{table_length}
 use Rattle.words.proofs.Groups.{Sorted, below, low-high, high-length, group, table_below, table_sorted}
 use Rattle.policy.specs.Owners.{Grouped}
-
--- record i from number `first` on
-module _ {A : Type 0} (read : List ℕ → ℕ → A) (w : ℕ) (s : List ℕ) (d : A) (first i : ℕ) (h : first + i < length s / w) where
-  pub record_there : i < length (drop first (table_of read w s))
-  record_there = simp (length-drop, table_length) (omega arith)
-
-  pub record_is : get_or (drop first (table_of read w s)) i d ≡ read s (w * (first + i))
-  record_is = get_or-drop first (table_of read w s) i d ∙ table_at read w s (first + i) d h
 
 -- records that are read with their owner from the first byte
 module _ {A : Type 0} (read : List ℕ → ℕ → A) (owner : A → ℕ) (d : A) (front : (s : List ℕ) (i : ℕ) → owner (read s i) ≡ get_or s i 0) (w : ℕ) (s : List ℕ)
@@ -41,5 +32,6 @@ module _ {A : Type 0} (read : List ℕ → ℕ → A) (owner : A → ℕ) (d : A
   -- and between them stand the records of the owner
   pub owned : (t first count : ℕ) → Grouped w s t first count → those (λ x. eqb (owner x) t) records ≡ take count (drop first records)
   owned t first count g =
-      let e : count ≡ below owner d records (suc t) - below owner d records t = rw (← count_is t, ← count_is (suc t), ← add-one t) (let p = g.start in let q = g.end in omega arith) in
+      let e : count ≡ below owner d records (suc t) - below owner d records t = rw (← count_is t, ← count_is (suc t), ← add-one t)
+      (let p = g.start in let q = g.end in omega arith) in
       rw (e, g.start, count_is t) (group owner d records sorted t)

@@ -1,4 +1,5 @@
 -- What a test comes to: nothing where the named place is no site, and else a look at the rows of that site alone. Assumes nothing.
+use Rattle.std.specs.Prelude.{None, Some}
 use mathlib.Core.Path.{◌≡◌, refl, ap}
 use mathlib.Core.Bool.{Bool, true, false, cond, ◌&&◌, ◌||◌}
 use mathlib.Core.List.{List, [], ◌∷◌}
@@ -6,7 +7,6 @@ use Prim.Native.Nat.{ℕ, ◌/◌, ◌<◌}
 use lib.Dec.{eqb}
 use lib.ListN.{length, length-map}
 use Rattle.words.specs.Lists.{some, those}
-use Rattle.words.specs.declared.Found.TheVariants.{At, Nothing}
 use Rattle.words.proofs.First.{found_at}
 use Rattle.words.proofs.Tables.{table_length}
 use Rattle.net.specs.Records.{site_width, read_site}
@@ -18,7 +18,7 @@ use Rattle.net.specs.declared.Site.{Site}
 use Rattle.policy.specs.House.{wanted, test_of}
 
 -- a place that was found is a site's number
-pub place_there : (s : List ℕ) (wanted place : ℕ) → place_of (names (sites_in s)) wanted ≡ At place → place < length s / site_width
+pub place_there : (s : List ℕ) (wanted place : ℕ) → place_of (names (sites_in s)) wanted ≡ Some place → place < length s / site_width
 unfolding place_of
 place_there s wanted place e =
     let h = (found_at _ (length (names (sites_in s))) place e).0 in
@@ -38,10 +38,10 @@ some_none [] = refl
 some_none (x ∷ l) = some_none l
 
 module _ (sites : List Site) (rows : List Row) (vars : List ℕ) (x : Node) where
-  pub test_nowhere : place_of (names sites) x.a ≡ Nothing → test_of sites rows vars x ≡ false
+  pub test_nowhere : place_of (names sites) x.a ≡ None → test_of sites rows vars x ≡ false
   unfolding test_of
   test_nowhere e = rw e (some_none rows)
 
-  pub test_there : (place : ℕ) → place_of (names sites) x.a ≡ At place → test_of sites rows vars x ≡ some (wanted vars x) (store place rows)
+  pub test_there : (place : ℕ) → place_of (names sites) x.a ≡ Some place → test_of sites rows vars x ≡ some (wanted vars x) (store place rows)
   unfolding test_of
   test_there place e = rw e (some-those (λ r. r.owner) place (wanted vars x) rows)

@@ -11,17 +11,18 @@ use Rattle.net.specs.declared.Aspect.{Aspect}
 use Rattle.net.specs.declared.Action.{Action}
 use Rattle.net.specs.declared.Row.{Row}
 use Rattle.policy.specs.Match.{through}
+use Rattle.net.specs.Codes.{capability_code}
+use Rattle.net.specs.declared.codes.Capability.{Capability}
+use Rattle.net.specs.declared.codes.Capability.TheVariants.{Put, Take, Read}
+use Rattle.policy.specs.declared.Act.{Act}
+use Rattle.policy.specs.declared.rules.Term.{Term}
+use Rattle.policy.specs.declared.rules.Term.TheVariants.{SourceS, SourceC, SourceO, SourceHs, TargetO, TargetHo, TargetS, TargetC}
 use Rattle.policy.specs.declared.rules.Rule.{Rule}
 
 abbrev pub name : ℕ → Operand
 name v = record { tag = 0; value = v }
 
--- an action about to be judged: the numbers of its source and target, and the action with each used variable's value in its place
-pub record Act : Type 0 where
-  pub source : ℕ
-  pub target : ℕ
-  pub action : Action
-
+-- an action about to be judged
 abbrev pub act_of : ℕ → ℕ → Action → Act
 act_of s t x = record { source = s; target = t; action = x }
 
@@ -33,27 +34,39 @@ abbrev pub terms_in : List Site → Act → List ℕ
 terms_in sites act = terms_of (site_at sites act.source) (site_at sites act.target)
 
 -- ---- the mandatory rules: rows of capability, left term, right term, "each giving 2 where the left does not dominate the right, else 0"
-abbrev pub demands : ℕ → ℕ → ℕ → Rule
+abbrev pub term_number : Term → ℕ
+term_number SourceS = 0
+term_number SourceC = 1
+term_number SourceO = 2
+term_number SourceHs = 3
+term_number TargetO = 4
+term_number TargetHo = 5
+term_number TargetS = 6
+term_number TargetC = 7
+
+abbrev pub demands : Capability → Term → Term → Rule
 demands c l r = record { capability = c; left = l; right = r }
 
 abbrev pub mandatory_rules : List Rule
 mandatory_rules =
     -- put: O of the target over C and HS of the source
-    demands 1 4 1
-    ∷ demands 1 4 3
+    demands Put TargetO SourceC
+    ∷ demands Put TargetO SourceHs
     -- take: both these and those of read
-    ∷ demands 2 4 1
-    ∷ demands 2 4 3
-    ∷ demands 2 0 4
-    ∷ demands 2 0 5
+    ∷ demands Take TargetO SourceC
+    ∷ demands Take TargetO SourceHs
+    ∷ demands Take SourceS TargetO
+    ∷ demands Take SourceS TargetHo
     -- read: S of the source over O and HO of the target
-    ∷ demands 3 0 4
-    ∷ demands 3 0 5
+    ∷ demands Read SourceS TargetO
+    ∷ demands Read SourceS TargetHo
     ∷ []
 
 abbrev pub rule_gives : ℕ → List ℕ → Rule → ℕ
 rule_gives capability terms x =
-    cond (eqb x.capability capability) (cond (dominates (get_or terms x.left 0) (get_or terms x.right 0)) 0 2) 0
+    cond (eqb (capability_code x.capability) capability)
+    (cond (dominates (get_or terms (term_number x.left) 0) (get_or terms (term_number x.right) 0)) 0 2)
+    0
 
 -- values gathered, none giving 0
 abbrev pub gather_all : List ℕ → ℕ

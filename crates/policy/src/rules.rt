@@ -1,64 +1,75 @@
-// The mandatory rules: a constant table of capability, left term, right term, walked for each action.
-ghost use Rattle.std.specs.Prelude.{◌≡◌, ◌<◌};
-ghost use Rattle.policy.specs.House.{terms_of, rule_gives, mandatory};
+// The mandatory rules: a constant table of capability, left term, right term, gone through for each action.
+ghost use Rattle.std.specs.Prelude.{◌≡◌, ◌<◌, get_or};
+ghost use Rattle.policy.specs.House.{terms_of, term_number, rule_gives, mandatory};
 
 use level::Level;
-use net::Site;
+use net::{Capability, Site};
+
+// The levels that rules speak of: S, C, O and HS of the source, O, HO, S and C of the target.
+#[derive(Clone, Copy, PartialEq, Eq, Debug)]
+pub enum Term {
+    SourceS,
+    SourceC,
+    SourceO,
+    SourceHs,
+    TargetO,
+    TargetHo,
+    TargetS,
+    TargetC,
+}
 
 // For actions of this capability the left term has to dominate the right.
 #[derive(Clone, Copy)]
 pub struct Rule {
-    pub capability: u8,
-    pub left: usize,
-    pub right: usize,
+    pub capability: Capability,
+    pub left: Term,
+    pub right: Term,
 }
 
-// How many rules there are, and the rules.
-const COUNT: usize = 8;
-
-const RULES: [Rule; COUNT] = [
+// The rules.
+const RULES: [Rule; 8] = [
     // put: O of the target over C and HS of the source
     Rule {
-        capability: 1,
-        left: 4,
-        right: 1,
+        capability: Capability::Put,
+        left: Term::TargetO,
+        right: Term::SourceC,
     },
     Rule {
-        capability: 1,
-        left: 4,
-        right: 3,
+        capability: Capability::Put,
+        left: Term::TargetO,
+        right: Term::SourceHs,
     },
     // take: both these and those of read
     Rule {
-        capability: 2,
-        left: 4,
-        right: 1,
+        capability: Capability::Take,
+        left: Term::TargetO,
+        right: Term::SourceC,
     },
     Rule {
-        capability: 2,
-        left: 4,
-        right: 3,
+        capability: Capability::Take,
+        left: Term::TargetO,
+        right: Term::SourceHs,
     },
     Rule {
-        capability: 2,
-        left: 0,
-        right: 4,
+        capability: Capability::Take,
+        left: Term::SourceS,
+        right: Term::TargetO,
     },
     Rule {
-        capability: 2,
-        left: 0,
-        right: 5,
+        capability: Capability::Take,
+        left: Term::SourceS,
+        right: Term::TargetHo,
     },
     // read: S of the source over O and HO of the target
     Rule {
-        capability: 3,
-        left: 0,
-        right: 4,
+        capability: Capability::Read,
+        left: Term::SourceS,
+        right: Term::TargetO,
     },
     Rule {
-        capability: 3,
-        left: 0,
-        right: 5,
+        capability: Capability::Read,
+        left: Term::SourceS,
+        right: Term::TargetHo,
     },
 ];
 
@@ -69,21 +80,26 @@ pub fn terms(x: Site, y: Site) -> [u16; 8]
     [x.s, x.c, x.o, x.hs, y.o, y.ho, y.s, y.c]
 }
 
-// What one rule gives: 2 where the left does not dominate the right, else 0.
-fn rule_gives(rule: Rule, capability: u8, terms: &[u16; 8]) -> u8
-    requires { (rule.left < 8) × (rule.right < 8) }
-    ensures { result ≡ rule_gives capability terms.now rule }
+// The level of a term.
+fn level(term: Term, terms: &[u16; 8]) -> Level
+    ensures { result.code ≡ get_or terms.now (term_number term) 0 }
 {
-    if rule.capability != capability {
-        return 0;
+    Level::from(terms[term as usize])
+}
+
+// What one rule gives: 2 where the left does not dominate the right, else 0.
+fn rule_gives(rule: &Rule, capability: u8, terms: &[u16; 8]) -> u8
+    ensures { result ≡ rule_gives capability terms.now rule.now }
+{
+    if u8::from(rule.capability) != capability {
+        return belnap::UNDECIDED;
     }
-    let left = rule.left;
-    let right = rule.right;
-    let above = Level { code: terms[left] };
-    if above.dominates(Level { code: terms[right] }) {
-        0
+    let above = level(rule.left, terms);
+    let below = level(rule.right, terms);
+    if above.dominates(below) {
+        belnap::UNDECIDED
     } else {
-        2
+        belnap::NO
     }
 }
 
@@ -91,13 +107,11 @@ fn rule_gives(rule: Rule, capability: u8, terms: &[u16; 8]) -> u8
 pub fn mandatory(capability: u8, terms: &[u16; 8]) -> u8
     ensures { (result ≡ mandatory capability terms.now) × (result < 4) }
 {
-    let rules = RULES;
-    let mut i = 0;
-    while i < COUNT {
-        if rule_gives(rules[i], capability, terms) != 0 {
-            return 2;
-        }
-        i += 1;
+    let undecided = RULES.iter().all(|rule| rule_gives(rule, capability, terms)
+        == belnap::UNDECIDED);
+    if undecided {
+        belnap::UNDECIDED
+    } else {
+        belnap::NO
     }
-    0
 }

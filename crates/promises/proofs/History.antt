@@ -15,7 +15,8 @@ use Rattle.belnap.proofs.Laws.{gather_grants}
 use Rattle.net.specs.Records.{no_site}
 use Rattle.net.specs.Net.{State, Rules, site_at}
 use Rattle.net.specs.declared.Site.{Site}
-use Rattle.policy.specs.House.{Act, terms_of, terms_in, mandatory, policy, judge}
+use Rattle.policy.specs.House.{terms_of, terms_in, mandatory, policy, judge}
+use Rattle.policy.specs.declared.Act.{Act}
 use Rattle.policy.proofs.Mandatory.{mandatory_put, mandatory-take}
 use Rattle.stepping.specs.Step.{change, advance, marked, loses, informed, bound_by, has_room, put_after, got_after, Plan, refuse, put, get, asking, done, step, final}
 use Rattle.stepping.proofs.Informed.{informed_knows}

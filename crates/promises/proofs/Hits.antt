@@ -13,7 +13,7 @@ use Rattle.net.specs.Net.{State, Rules, row_at, is_binding, fields_of, values_of
 use Rattle.net.specs.declared.Operand.{Operand}
 use Rattle.net.specs.declared.Row.{Row}
 use Rattle.policy.specs.Match.{fits}
-use Rattle.policy.specs.House.{Act}
+use Rattle.policy.specs.declared.Act.{Act}
 use Rattle.stepping.specs.Step.{hits, get, asking}
 use Rattle.stepping.proofs.StepLaws.{chosen-hits, asked_get}
 

@@ -1,6 +1,7 @@
 -- More rules never allow more: of two accepted nets that differ in the rules alone, the second with all of the first's and any others, what the
 -- first denies the second denies; and the steps that the second grants in a run, the first grants too, to the same end. A step that the second
 -- grants is judged by both and does the same; one that it does not grant is struck out and changes nothing. Assumes nothing.
+use Rattle.std.specs.Prelude.{None, Option, Some}
 use mathlib.Core.Path.{◌≡◌, refl, sym, ap, ◌∙◌}
 use mathlib.Core.Bool.{Bool, true, false, cond}
 use mathlib.Core.List.{List, [], ◌∷◌, ◌++◌, Memᴰ}
@@ -10,8 +11,6 @@ use lib.Dec.{T, eqb, ltb→lt}
 use lib.ListN.{length}
 use Rattle.belnap.specs.Belnap.{grants}
 use Rattle.words.specs.Lists.{insert_at}
-use Rattle.words.specs.declared.Found.{Found}
-use Rattle.words.specs.declared.Found.TheVariants.{At, Nothing}
 use Rattle.words.proofs.Truth.{no, part, is_T}
 use Rattle.words.proofs.First.{every_at}
 use Rattle.net.specs.Net.{State, Rules, aspect_at}
@@ -19,7 +18,8 @@ use Rattle.net.specs.declared.Node.{Node}
 use Rattle.net.specs.declared.Aspect.{Aspect}
 use Rattle.rulebook.specs.Rulebook.{aspect_ok, aspect_rules}
 use Rattle.format.specs.Format.{well_formed, net_rules}
-use Rattle.policy.specs.House.{Act, judge}
+use Rattle.policy.specs.House.{judge}
+use Rattle.policy.specs.declared.Act.{Act}
 use Rattle.policy.specs.Adding.{Adds}
 use Rattle.policy.proofs.More.{Own, judge_fewer}
 use Rattle.stepping.specs.Step.{Out, Start, stop, go, start, put, getting, chosen, allowed, judged, planned, asking, done, step, final, is_granted}
@@ -56,10 +56,10 @@ granted_is NoNet e = no (cc)
 denies_not : {A : Type 0} (s : State) (act : Act) → (done s (allowed s act)).answer ≡ Denied → A
 denies_not s act e = pick (eqb act.action.capability 1) (chosen act s.rows) e
   where
-    pick : {A : Type 0} (b : Bool) (c : Found) → (done s (cond b (put act) (getting act c))).answer ≡ Denied → A
+    pick : {A : Type 0} (b : Bool) (c : Option ℕ) → (done s (cond b (put act) (getting act c))).answer ≡ Denied → A
     pick true c e = no (cc)
-    pick false (At k) e = no (cc)
-    pick false Nothing e = no (cc)
+    pick false (Some k) e = no (cc)
+    pick false None e = no (cc)
 
 module _ (r₁ r₂ : Rules) (owned : Own r₁) (more : Adds r₁ r₂) where
   judged_same : (s : State) (act : Act) (b₁ b₂ : Bool) → (T b₂ → T b₁) → is_granted (done s (judged s act b₂)).answer ≡ true → judged s act b₁ ≡ judged s act b₂

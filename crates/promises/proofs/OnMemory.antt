@@ -1,5 +1,6 @@
 -- The public calls on memory: steps, runs, loads and saves fit together. Memory that holds a net is the memory of that net, and a step keeps it
 -- so; what is said of nets is thus said of memory. Assumes nothing.
+use Rattle.std.specs.Prelude.{Ok}
 use mathlib.Core.Path.{◌≡◌, refl, sym, ap, ◌∙◌}
 use mathlib.Core.Bool.{true, false}
 use mathlib.Core.List.{List, [], ◌∷◌, ◌++◌, map}
@@ -16,7 +17,6 @@ use Rattle.stepping.specs.declared.Answer.TheVariants.{Granted, Denied}
 use Rattle.stepping.proofs.StepLaws.{not_granted_leaves}
 use Rattle.stepping.proofs.Keeps.{step_keeps, run_keeps}
 use Rattle.monitor.specs.Memory.{holds_net, rules_held, state_held, memory_with, step_answer, step_memory, run_answer, run_memory, run_answers}
-use Rattle.monitor.specs.declared.Ran.TheVariants.{Through}
 use Rattle.monitor.proofs.Holding.{held_formed, held_memory, memory_holds, rules_back, state_back}
 use Rattle.promises.specs.Runs.{keep, granted, stepped, step_answers, granted_steps}
 use Rattle.promises.proofs.More.{more_deny, more_follow}
@@ -89,7 +89,7 @@ module _ (m : List ℕ) (bytes : Bytes m) (held : holds_net m ≡ true) where
   memory_left i e = rw held (ap (memory_with r) (not_granted_leaves r s i (ap is_granted (sym (held_answer i)) ∙ e)) ∙ sym is_memory)
 
   -- a run is that many single steps
-  pub run_steps : (steps out : List ℕ) → run_answer m steps (length out) ≡ Through
+  pub run_steps : (steps out : List ℕ) → run_answer m steps (length out) ≡ Ok tt
       → (run_memory m steps (length out) ≡ stepped m steps) × (run_answers m steps out ≡ map number_of (step_answers m steps) ++ drop (length steps) out)
   unfolding run_memory run_answers
   run_steps steps out e = (rw e (sym (held-stepped steps)), rw e (ap (λ (l : List Answer). map number_of l ++ drop (length steps) out) (sym (held-answers steps))))

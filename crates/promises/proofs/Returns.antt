@@ -1,5 +1,6 @@
 -- Loading and saving undo each other: what is loaded is saved byte for byte, and what is saved is loaded to the same memory, the same net. An
 -- accepted image fills the front of memory and its header says where it ends. Assumes nothing.
+use Rattle.std.specs.Prelude.{Ok}
 use mathlib.Core.Path.{◌≡◌, refl, sym, ap, ◌∙◌}
 use mathlib.Core.Bool.{true}
 use mathlib.Core.List.{List}
@@ -11,18 +12,16 @@ use borrow.Author.Tests.{le-ltb, eq-eqb}
 use Rattle.words.specs.Bytes.{padded, splice}
 use Rattle.net.specs.Image.{memory_size, end_in}
 use Rattle.format.specs.Verdict.{verdict_of}
-use Rattle.format.specs.declared.Verdict.TheVariants.{Accepted}
 use Rattle.monitor.specs.Memory.{load_answer, load_memory, image_in, holds_net, save_answer, save_output}
-use Rattle.monitor.specs.declared.Saved.TheVariants.{Whole}
 use Rattle.monitor.proofs.Holding.{holds_parts, image_padded, padded_holds}
 
 -- loading an accepted image into memory of the right size
-load_accepted : (image m : List ℕ) → length m ≡ memory_size → verdict_of image ≡ Accepted → (load_answer image m ≡ Accepted) × (load_memory image m ≡ padded memory_size image)
+load_accepted : (image m : List ℕ) → length m ≡ memory_size → verdict_of image ≡ Ok tt → (load_answer image m ≡ Ok tt) × (load_memory image m ≡ padded memory_size image)
 unfolding load_answer load_memory
 load_accepted image m size ok = (rw (eq-eqb (length m) memory_size size) ok, rw (eq-eqb (length m) memory_size size, ok))
 
 -- saving a held net to an output with room: the image, and the output beyond it as it was
-save_held : (m out : List ℕ) → holds_net m ≡ true → end_in m ≤ length out → (save_answer m (length out) ≡ Whole (end_in m)) × (save_output m out ≡ splice out 0 (image_in m))
+save_held : (m out : List ℕ) → holds_net m ≡ true → end_in m ≤ length out → (save_answer m (length out) ≡ Ok (end_in m)) × (save_output m out ≡ splice out 0 (image_in m))
 unfolding save_output save_answer
 save_held m out held room = (rw (held, le-ltb (length out) (end_in m) room), rw (held, le-ltb (length out) (end_in m) room))
 
@@ -32,10 +31,10 @@ unfolding splice
 front out b = take_at b _ (length b) refl
 
 -- "loading then saving returns its bytes"
-module _ (image m out : List ℕ) (size : length m ≡ memory_size) (ok : verdict_of image ≡ Accepted) (room : length image ≤ length out) where
+module _ (image m out : List ℕ) (size : length m ≡ memory_size) (ok : verdict_of image ≡ Ok tt) (room : length image ≤ length out) where
   pub record LoadSaves : Type 0 where
-    pub loads : load_answer image m ≡ Accepted
-    pub saves : save_answer (load_memory image m) (length out) ≡ Whole (length image)
+    pub loads : load_answer image m ≡ Ok tt
+    pub saves : save_answer (load_memory image m) (length out) ≡ Ok (length image)
     pub same : take (length image) (save_output (load_memory image m) out) ≡ image
 
   pub load_save : LoadSaves
@@ -47,7 +46,7 @@ module _ (image m out : List ℕ) (size : length m ≡ memory_size) (ok : verdic
       let s = save_held (padded memory_size image) out h (omega (arith, e, room)) in
       record {
         loads = p.0;
-        saves = rw p.1 (s.0 ∙ ap Whole e);
+        saves = rw p.1 (s.0 ∙ ap Ok e);
         same = rw (p.1, s.1, i) (front out image);
       }
 
@@ -57,8 +56,8 @@ module _ (m out other : List ℕ) (held : holds_net m ≡ true) (size : length o
   saved = take (end_in m) (save_output m out)
 
   pub record SaveLoads : Type 0 where
-    pub saves : save_answer m (length out) ≡ Whole (end_in m)
-    pub loads : load_answer saved other ≡ Accepted
+    pub saves : save_answer m (length out) ≡ Ok (end_in m)
+    pub loads : load_answer saved other ≡ Ok tt
     pub same : load_memory saved other ≡ m
 
   pub save_load : SaveLoads

@@ -3,13 +3,13 @@
 use mathlib.Core.Path.{◌≡◌, refl, sym, ap, ◌∙◌}
 use mathlib.Core.Bool.{Bool, true, false, cond, not, ◌&&◌, ◌||◌, and-true, and_assoc, or-true}
 use mathlib.Core.List.{List, [], ◌∷◌, ◌++◌}
-use Prim.Native.Nat.{ℕ, ◌+◌, ◌≤◌, ◌<◌}
+use Prim.Native.Nat.{ℕ, zero, suc, ◌+◌, ◌≤◌, ◌<◌}
 use native.Mathlib.Omega.{arith}
-use native.Mathlib.Numerals.{add-one}
 use lib.Dec.{T, ltb, leb, eqb, ltb→lt, eqb→eq}
 use lib.ListN.{length, get_or, take, drop, take-append-drop}
-use lib.Seq.{drop-cons}
 use borrow.Author.Tests.{eqb-true, eq-eqb, ne_eqb, le-leb, leb-true, not-true}
+use Rattle.std.specs.Bool.{MatchBool}
+use Rattle.std.specs.List.{AllWithin, HoldsAt}
 use Rattle.words.specs.Lists.{every, all_of, all, some, count}
 use Rattle.words.proofs.Truth.{no, both_T, T_both, is_T, T_is, both_left, both_right, same_truth}
 use Rattle.words.proofs.First.{every_at, every_of}
@@ -22,16 +22,21 @@ use Rattle.net.specs.declared.Aspect.{Aspect}
 use Rattle.rulebook.specs.Parts.{operand_ok, unused, operands_ok, speaks}
 use Rattle.rulebook.specs.Steps.{alone, once_each}
 
--- ---- one more of the operands after a place
-module _ (p : Operand → Bool) (l : List Operand) (j : ℕ) (h : j < length l) where
-  next : some p (drop j l) ≡ (p (get_or l j no_operand) || some p (drop (j + 1) l))
-  next = rw add-one (ap (some p) (drop-cons l j no_operand h))
+-- ---- some element passes a test, or none does, as a chain finds it
+module _ {A : Type 0} (p : A → Bool) where
+  some_found : (l : List A) (k : ℕ) → k < length l → HoldsAt (λ y. p y ≡ true) l k → some p l ≡ true
+  some_found [] k h f = no (omega arith)
+  some_found (x ∷ l) zero h f = rw (f x)
+  some_found (x ∷ l) (suc k) h f = rw (some_found l k (omega arith) f) (or-true (p x))
 
-  pub some_here : p (get_or l j no_operand) ≡ true → some p (drop j l) ≡ true
-  some_here t = next ∙ rw t
+  none_found : (l : List A) → AllWithin (λ y. p y ≡ false) l 0 (length l) → some p l ≡ false
+  none_found [] f = refl
+  none_found (x ∷ l) f = rw (f 0 x (omega arith) (omega arith)) (none_found l (λ k d a b. f (suc k) d (omega arith) (omega arith)))
 
-  pub some-later : p (get_or l j no_operand) ≡ false → some p (drop j l) ≡ some p (drop (j + 1) l)
-  some-later t = next ∙ rw t
+  some_is : (l : List A) (r : Bool)
+      → MatchBool r ((k : ℕ) × (k < length l) × HoldsAt (λ y. p y ≡ true) l k) (AllWithin (λ y. p y ≡ false) l 0 (length l)) → r ≡ some p l
+  some_is l true (k, h, f) = sym (some_found l k h f)
+  some_is l false f = sym (none_found l f)
 
 -- ---- none of them, and how many
 module _ {A : Type 0} (p : A → Bool) where
@@ -152,6 +157,12 @@ cut_once x tags more p q r =
     (T_both (ranged 1 x.source) _ (at x.source p) (T_both (ranged 1 x.target) _ (at x.target q) tt)) (is_T (operands_ok more x.count x.fields) r)
 
 -- ---- as the code goes through them
+pub alone_is : (tag : ℕ) (x : Operand) (l : List Operand) (r : Bool) → x.tag ≡ tag
+    → MatchBool r ((k : ℕ) × (k < length l) × HoldsAt (λ y. speaks tag x.value y ≡ true) l k) (AllWithin (λ y. speaks tag x.value y ≡ false) l 0 (length l))
+    → not r ≡ alone tag x l
+unfolding alone
+alone_is tag x l r e h = rw (eq-eqb x.tag tag e, some_is (speaks tag x.value) l r h)
+
 alone_last : (tag : ℕ) (x : Operand) → alone tag x [] ≡ true
 unfolding alone
 alone_last tag x = or-true (not (eqb x.tag tag))

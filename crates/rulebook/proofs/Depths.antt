@@ -1,26 +1,28 @@
--- Nodes in their table, and the row of their depths: what the check works out of a node says whether it is good, and is its depth where it
--- is. Assumes nothing.
+-- Nodes in their table, and the row of their depths: what the check works out of a node's parts is what the rules say of a and b, and its
+-- answer is the depth of a good node. Assumes nothing.
 use mathlib.Core.Path.{◌≡◌, refl, sym, ap, ◌∙◌}
-use mathlib.Core.Bool.{Bool, true, false, cond, ◌&&◌, and_assoc}
+use mathlib.Core.Bool.{Bool, true, false, cond, ◌&&◌, ◌||◌, and_assoc, and-false}
 use mathlib.Core.List.{List, [], ◌∷◌, ◌++◌}
 use Prim.Native.Nat.{ℕ, suc, ◌+◌, ◌*◌, ◌≤◌, ◌<◌}
 use native.Mathlib.Omega.{arith}
 use native.Mathlib.Numerals.{add-one}
-use lib.Dec.{T, ltb, leb, ltb→lt}
-use lib.ListN.{length, get_or, take, drop, set, get_or-eq_default}
-use lib.Seq.{take_at, set_at, drop-cons, append_snoc}
-use borrow.Author.Tests.{le-leb, lt-leb, leb-true, ltb-true, ltb-false}
-use Rattle.words.specs.Lists.{first_bad, all_of, fill}
-use Rattle.words.proofs.Truth.{no, both_T, is_T, both_right, part}
-use Rattle.words.proofs.First.{first_below}
-use Rattle.words.proofs.Lists.{length-fill, fill_at}
+use lib.Dec.{ltb, leb, eqb}
+use lib.ListN.{length, get_or, take, set}
+use Rattle.std.proofs.Math.Seq.{take-suc-set}
+use Rattle.std.specs.Prelude.{max, Some, None}
+use Rattle.std.proofs.lemmas.Option.{cond_some}
+use Rattle.words.specs.Lists.{all_of, fill}
+use Rattle.words.proofs.Truth.{no}
+use Rattle.words.proofs.Lists.{length-fill}
 use Rattle.words.proofs.Tables.{table_at}
 use Rattle.net.specs.Records.{node_width, no_node, read_node}
-use Rattle.net.specs.Net.{node_at, depth_limit}
+use Rattle.net.specs.Net.{node_at, depth_limit, place_of, is_there}
 use Rattle.net.specs.Image.{nodes_in}
 use Rattle.net.specs.declared.Node.{Node}
-use Rattle.rulebook.specs.Rulebook.{has_one, has_two, child_ok, depth_of, depths, node_rules, node_ok}
-use Rattle.rulebook.specs.Steps.{shape_ok, depth_at}
+use Rattle.rulebook.specs.declared.nodes.Part.{Part}
+use Rattle.rulebook.specs.declared.nodes.Part.TheVariants.{Condition, Advice, Place, UpTo}
+use Rattle.rulebook.specs.Rulebook.{is_condition, is_advice, has_one, has_two, first_ok, second_ok, asked_ok, depth_of, depths, node_rules, node_ok}
+use Rattle.rulebook.specs.Steps.{first_part, second_part, parts_of, part_depth, shape_ok, depth_at}
 
 -- ---- a node in its table, and its kind
 pub node_is : (s : List ℕ) (k : ℕ) → 24 * k + 24 ≤ length s → node_at (nodes_in s) k ≡ read_node s (24 * k)
@@ -30,108 +32,109 @@ pub kind_is : (s : List ℕ) (k : ℕ) → 24 * k + 24 ≤ length s → (node_at
 unfolding read_node
 kind_is s k h = ap (λ x. x.kind) (node_is s k h)
 
--- ---- rows of values, stored one after the other where the row ends
-module _ (f : ℕ → List ℕ → ℕ) (d r : List ℕ) (k : ℕ) (e : r ≡ fill f k ++ drop k d) where
-  pub filled : take k r ≡ fill f k
-  filled = ap (take k) e ∙ take_at (fill f k) (drop k d) k (length-fill f k)
-
-  pub fill_more : (x : ℕ) → k < length d → x ≡ f k (fill f k) → set r k x ≡ fill f (k + 1) ++ drop (k + 1) d
-  unfolding fill
-  fill_more x h v =
-      rw (e, drop-cons d k 0, add-one, v)
-      (set_at (fill f k) (get_or d k 0) (drop (suc k) d) (f k (fill f k)) k (length-fill f k) ∙ sym (append_snoc (fill f k) (f k (fill f k)) (drop (suc k) d)))
-
 -- ---- the last of some tests
 all_last : (l : List Bool) (b : Bool) → all_of (l ++ (b ∷ [])) ≡ (all_of l && b)
 all_last [] b = refl
 all_last (a ∷ []) b = refl
 all_last (a ∷ c ∷ l) b = ap (λ (t : Bool). a && t) (all_last (c ∷ l) b) ∙ sym (and_assoc a (all_of (c ∷ l)) b)
 
-chosen : (t x y : Bool) → t ≡ true → T (cond t x y) → T x
-chosen true x y e h = h
-chosen false x y e h = no (cc)
+-- ---- what the parts of a node come to
+none_of : {A : Type 0} (b : Bool) (x : A) → cond b (Some x) None ≡ None → b ≡ false
+none_of true x e = no (cc)
+none_of false x e = refl
 
-pub at_most : (t : Bool) (n m : ℕ) → n ≤ m → cond t n 0 ≤ m
-at_most true n m h = h
-at_most false n m h = omega arith
+-- a node of which only the byte that is 0, the operands and the depth are still to be looked at
+left : (kind zero first second asked : Bool) (d : ℕ) → kind ≡ true → first ≡ true → second ≡ true
+    → cond ((kind && (zero && (first && (second && asked)))) && leb (1 + d) depth_limit) (Some (1 + d)) None ≡ cond (zero && (asked && ltb d depth_limit)) (Some (1 + d)) None
+left kind zero first second asked d k f s =
+    let next : 1 + d ≡ suc d = omega arith in
+    rw (k, f, s, next) (ap (λ (b : Bool). cond b (Some (suc d)) None) (and_assoc zero asked (ltb d depth_limit)))
 
+module _ (places : List ℕ) (l : List Node) (row : List ℕ) where
+  -- a child of one sort or the other, the name of a place, or a number up to this
+  part_is : (child low place : Bool) (most v : ℕ) → part_depth places l row (cond child (cond low Condition Advice) (cond place Place (UpTo most))) v
+      ≡ cond (cond child (ltb v (length row) && cond low (is_condition (node_at l v)) (is_advice (node_at l v))) (cond place (is_there (place_of places v)) (leb v most)))
+      (Some (cond child (get_or row v 0) 0)) None
+  part_is true true place most v = refl
+  part_is true false place most v = refl
+  part_is false low true most v = refl
+  part_is false low false most v = refl
+
+  -- what the rules say of a and b, and of the depth: where a rule holds, the part has the depth that it adds
+  module _ (x : Node) where
+    pub first_is : part_depth places l row (first_part x.kind) x.a ≡ cond (first_ok places l (length row) x) (Some (cond (has_one x.kind) (get_or row x.a 0) 0)) None
+    first_is = part_is (has_one x.kind) (leb x.kind 4 || eqb x.kind 17) (eqb x.kind 6) (cond (eqb x.kind 7) 7 (cond (eqb x.kind 16) 3 0)) x.a
+
+    pub second_is : part_depth places l row (second_part x.kind) x.b ≡ cond (second_ok l (length row) x) (Some (cond (has_two x.kind) (get_or row x.b 0) 0)) None
+    second_is = part_is (has_two x.kind) (leb x.kind 4 || eqb x.kind 17) false (cond (eqb x.kind 7) 7 0) x.b
+
+    -- a node whose kind, a or b is bad has no depth; each other is one deeper than its deeper part, where the rest is good
+    module _ (same : x ≡ node_at l (length row)) where
+      pub bad_kind : parts_of x.kind ≡ None → depth_at places l row ≡ None
+      unfolding depth_at shape_ok
+      bad_kind e = rw (← same, none_of (is_condition x || is_advice x) _ e)
+
+      module _ (a b : Part) (of_kind : parts_of x.kind ≡ Some (a, b)) where
+        kind_ok : (is_condition x || is_advice x) ≡ true
+        kind_ok = (cond_some (is_condition x || is_advice x) _ (a, b) of_kind).0
+
+        both : ◌≡◌ {A = Part × Part} (first_part x.kind, second_part x.kind) (a, b)
+        both = (cond_some (is_condition x || is_advice x) _ (a, b) of_kind).1
+
+        in_a : part_depth places l row a x.a ≡ cond (first_ok places l (length row) x) (Some (cond (has_one x.kind) (get_or row x.a 0) 0)) None
+        in_a = ap (λ (p : Part × Part). part_depth places l row p.0 x.a) (sym both) ∙ first_is
+
+        in_b : part_depth places l row b x.b ≡ cond (second_ok l (length row) x) (Some (cond (has_two x.kind) (get_or row x.b 0) 0)) None
+        in_b = ap (λ (p : Part × Part). part_depth places l row p.1 x.b) (sym both) ∙ second_is
+
+        pub bad_first : part_depth places l row a x.a ≡ None → depth_at places l row ≡ None
+        unfolding depth_at shape_ok
+        bad_first e = rw (← same) (simp (none_of (first_ok places l (length row) x) _ (sym in_a ∙ e), and-false))
+
+        pub bad_second : part_depth places l row b x.b ≡ None → depth_at places l row ≡ None
+        unfolding depth_at shape_ok
+        bad_second e = rw (← same) (simp (none_of (second_ok l (length row) x) _ (sym in_b ∙ e), and-false))
+
+        module _ (d e : ℕ) (f : part_depth places l row a x.a ≡ Some d) (s : part_depth places l row b x.b ≡ Some e) where
+          good_parts : depth_at places l row ≡ cond (eqb x.zero 0 && (asked_ok x && ltb (max d e) depth_limit)) (Some (1 + max d e)) None
+          unfolding depth_at shape_ok
+          good_parts =
+              let p = cond_some (first_ok places l (length row) x) _ d (sym in_a ∙ f) in
+              let q = cond_some (second_ok l (length row) x) _ e (sym in_b ∙ s) in
+              rw (← same, ← p.1, ← q.1)
+              (left (is_condition x || is_advice x) (eqb x.zero 0) (first_ok places l (length row) x) (second_ok l (length row) x) (asked_ok x) _ kind_ok p.0 q.0)
+
+          pub good_rest : (asked : Bool) (m : ℕ) → asked ≡ asked_ok x → m ≡ max d e → (eqb x.zero 0 && (asked && ltb m depth_limit)) ≡ true
+              → depth_at places l row ≡ Some (1 + m)
+          good_rest asked m p q t = good_parts ∙ rw (← p, ← q, t)
+
+          pub bad_rest : (asked : Bool) (m : ℕ) → asked ≡ asked_ok x → m ≡ max d e → (eqb x.zero 0 && (asked && ltb m depth_limit)) ≡ false
+              → depth_at places l row ≡ None
+          bad_rest asked m p q t = good_parts ∙ rw (← p, ← q, t)
+
+-- ---- whether a node is good
 module _ (places : List ℕ) (l : List Node) (k : ℕ) where
-  -- ---- a node's children are before it
-  module _ (x : Node) (good : shape_ok places l k x ≡ true) where
-    pub first_before : has_one x.kind ≡ true → x.a < k
-    unfolding shape_ok
-    first_before h =
-        ltb→lt x.a k (both_T (ltb x.a k) _
-        (chosen (has_one x.kind) (child_ok l k x.kind x.a) _ h (part (take 5 (node_rules places l k x)) (is_T _ good) 2))).0
-
-    pub second_before : has_two x.kind ≡ true → x.b < k
-    unfolding shape_ok
-    second_before h =
-        ltb→lt x.b k (both_T (ltb x.b k) _
-        (chosen (has_two x.kind) (child_ok l k x.kind x.b) _ h (part (take 5 (node_rules places l k x)) (is_T _ good) 3))).0
-
-  -- ---- what the check works out
-  module _ (row : List ℕ) (x : Node) (same : x ≡ node_at l k) where
-    pub depth_bad : shape_ok places l k x ≡ false → depth_limit + 1 ≡ depth_at places l k row
-    unfolding depth_at
-    depth_bad t = rw (← same, t)
-
-    pub depth_good : (r : ℕ) → shape_ok places l k x ≡ true → r ≡ depth_of x row → r ≡ depth_at places l k row
-    unfolding depth_at
-    depth_good r t e = rw (← same, t) e
-
   pub node-split : node_ok places l k ≡ (shape_ok places l k (node_at l k) && leb (depth_of (node_at l k) (depths l k)) depth_limit)
   unfolding node_ok shape_ok
   node-split = all_last (take 5 (node_rules places l k (node_at l k))) (leb (depth_of (node_at l k) (depths l k)) depth_limit)
 
-  decided : (t : Bool) (d : ℕ) → leb (cond t d (depth_limit + 1)) depth_limit ≡ (t && leb d depth_limit)
-  decided true d = refl
-  decided false d = refl
-
-  -- it says whether the node is good
-  pub node_decides : leb (depth_at places l k (depths l k)) depth_limit ≡ node_ok places l k
+  -- over the row of those before it, it has a depth if it is good, and that one
+  pub depth_is : depth_at places l (depths l k) ≡ cond (node_ok places l k) (Some (depth_of (node_at l k) (depths l k))) None
   unfolding depth_at
-  node_decides = decided (shape_ok places l k (node_at l k)) (depth_of (node_at l k) (depths l k)) ∙ sym node-split
+  depth_is = rw (length-fill (λ j row. depth_of (node_at l j) row) k, node-split)
 
-  -- and is its depth where it is
-  small : (t : Bool) (d : ℕ) → cond t d (depth_limit + 1) ≤ depth_limit → cond t d (depth_limit + 1) ≡ d
-  small true d h = refl
-  small false d h = absurd (let z : ⊥ = omega arith in z)
+-- ---- a loop whose row begins with the depths of the nodes below k, and what it works out of node k
+module _ (places : List ℕ) (l : List Node) (row : List ℕ) (k : ℕ) (e : take k row ≡ depths l k) where
+  worked : depth_at places l (take k row) ≡ cond (node_ok places l k) (Some (depth_of (node_at l k) (depths l k))) None
+  worked = ap (depth_at places l) e ∙ depth_is places l k
 
-  pub depth_is : (row : List ℕ) → depth_at places l k row ≤ depth_limit → depth_at places l k row ≡ depth_of (node_at l k) row
-  unfolding depth_at
-  depth_is row h = small (shape_ok places l k (node_at l k)) (depth_of (node_at l k) row) h
+  pub bad_here : depth_at places l (take k row) ≡ None → node_ok places l k ≡ false
+  bad_here n = none_of (node_ok places l k) _ (sym worked ∙ n)
 
--- ---- the row of good nodes
-pub shallow : (places : List ℕ) (l : List Node) (k : ℕ) → first_bad (node_ok places l) k ≡ k → (j : ℕ) → get_or (depths l k) j 0 ≤ depth_limit
-shallow places l k e j = pick (ltb j k) refl
-  where
-    pick : (b : Bool) → ltb j k ≡ b → get_or (depths l k) j 0 ≤ depth_limit
-    pick true t =
-        let h = ltb-true j k t in
-        rw (fill_at (λ i row. depth_of (node_at l i) row) k j h)
-        (leb-true _ _ (both_right (shape_ok places l j (node_at l j)) (sym (node-split places l j) ∙ first_below (node_ok places l) k j (rw e h))))
-    pick false t =
-        let h = ltb-false j k t in
-        rw (get_or-eq_default (depths l k) 0 {n = j} (rw (length-fill (λ i row. depth_of (node_at l i) row) k) h)) (omega arith)
+  module _ (x : ℕ) (v : depth_at places l (take k row) ≡ Some x) where
+    pub good_here : node_ok places l k ≡ true
+    good_here = (cond_some (node_ok places l k) _ x (sym worked ∙ v)).0
 
--- ---- a loop that has the row of the nodes below k, and what it works out of node k
-module _ (places : List ℕ) (l : List Node) (d r : List ℕ) (k : ℕ) (e : r ≡ depths l k ++ drop k d) where
-  abbrev rule : ℕ → List ℕ → ℕ
-  rule j row = depth_of (node_at l j) row
-
-  pub row_shallow : first_bad (node_ok places l) k ≡ k → (j : ℕ) → get_or (take k r) j 0 ≤ depth_limit
-  row_shallow g j = rw (filled rule d r k e) (shallow places l k g j)
-
-  module _ (x : ℕ) (v : x ≡ depth_at places l k (take k r)) where
-    worked : x ≡ depth_at places l k (depths l k)
-    worked = v ∙ ap (depth_at places l k) (filled rule d r k e)
-
-    pub too_deep : depth_limit < x → node_ok places l k ≡ false
-    too_deep h = sym (node_decides places l k) ∙ rw (← worked) (lt-leb x depth_limit h)
-
-    pub good_here : x ≤ depth_limit → node_ok places l k ≡ true
-    good_here h = sym (node_decides places l k) ∙ rw (← worked) (le-leb x depth_limit h)
-
-    pub row_more : x ≤ depth_limit → k < length d → set r k x ≡ depths l (k + 1) ++ drop (k + 1) d
-    row_more h b = fill_more rule d r k e x b (worked ∙ depth_is places l k (depths l k) (rw (← worked) h))
+    pub row_more : k < length row → take (k + 1) (set row k x) ≡ depths l (k + 1)
+    unfolding fill
+    row_more h = rw (add-one, take-suc-set row k x h, e, ← (cond_some (node_ok places l k) _ x (sym worked ∙ v)).1)

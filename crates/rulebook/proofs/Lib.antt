@@ -1,4 +1,5 @@
 pub mod Chains
+pub mod Failing
 pub mod Owners
 pub mod Rooms
 pub mod Operands

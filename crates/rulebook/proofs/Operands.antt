@@ -1,53 +1,18 @@
--- What the rules of operands come to, tag by tag and place by place, as the code looks at them. Assumes nothing.
-use mathlib.Core.Path.{◌≡◌, refl, sym, ap, ◌∙◌}
-use mathlib.Core.Bool.{Bool, true, false, cond, not, ◌&&◌, ◌||◌, or-false, and-true, and-false, and_assoc}
+-- What the rules of four operands come to, place by place, as the code looks at them. Assumes nothing.
+use mathlib.Core.Path.{◌≡◌, sym, ap, ◌∙◌}
+use mathlib.Core.Bool.{Bool, cond, ◌&&◌, and-true, and_assoc}
 use mathlib.Core.List.{List, [], ◌∷◌}
 use Prim.Native.Nat.{ℕ, zero, suc}
 use native.Mathlib.Omega.{arith}
-use lib.Dec.{ltb, leb, eqb}
+use lib.Dec.{ltb}
 use lib.ListN.{length, get_or}
 use lib.Seq.{take-nil, drop-nil}
-use borrow.Author.Tests.{ne_eqb, lt-ltb}
-use Rattle.words.specs.Lists.{all_of, some}
-use Rattle.words.proofs.Lists.{some-append}
+use borrow.Author.Tests.{lt-ltb}
+use Rattle.words.specs.Lists.{all_of}
 use Rattle.words.proofs.Numbers.{written}
 use Rattle.net.specs.Records.{no_operand}
 use Rattle.net.specs.declared.Operand.{Operand}
-use Rattle.rulebook.specs.Parts.{operand_ok, tags_of, unused, operands_ok}
-
-some_if : (p : ℕ → Bool) (b : Bool) (x : ℕ) → some p (cond b (x ∷ []) []) ≡ (b && p x)
-some_if p true x = or-false (p x)
-some_if p false x = refl
-
--- ---- an operand: its tag is one of the tags
-module _ (binds any binder : Bool) where
-  allowed : (t : ℕ) → some (eqb t) (tags_of binds any binder) ≡ (eqb t 0 || (eqb t 1 || ((binds && eqb t 2) || ((any && eqb t 3) || (binder && eqb t 4)))))
-  allowed t = simp (some-append, some_if)
-
-  abbrev pub by_tag : ℕ → ℕ → Bool
-  by_tag t v =
-      cond (eqb t 0) (not (eqb v 0))
-      (cond (eqb t 1) (ltb v 8)
-      (cond (eqb t 2) (binds && ltb v 8)
-      (cond (eqb t 3) (any && eqb v 0)
-      (cond (eqb t 4) (binder && eqb v 0) false))))
-
-  abbrev good : ℕ → ℕ → Bool
-  good t v = cond (eqb t 0) (not (eqb v 0)) (cond (leb t 2) (ltb v 8) (eqb v 0))
-
-  tagged : (t v : ℕ) → (some (eqb t) (tags_of binds any binder) && good t v) ≡ by_tag t v
-  tagged zero v = refl
-  tagged (suc zero) v = refl
-  tagged (suc (suc zero)) v = ap (λ (z : Bool). z && ltb v 8) (allowed 2) ∙ simp (and-true, and-false, or-false)
-  tagged (suc (suc (suc zero))) v = ap (λ (z : Bool). z && eqb v 0) (allowed 3) ∙ simp (and-true, and-false, or-false)
-  tagged (suc (suc (suc (suc zero)))) v = ap (λ (z : Bool). z && eqb v 0) (allowed 4) ∙ simp (and-true, and-false)
-  tagged (suc (suc (suc (suc (suc k))))) v =
-      let t = suc (suc (suc (suc (suc k)))) in
-      ap (λ (z : Bool). z && good t v) (allowed t)
-      ∙ simp (ne_eqb t 0 (λ e. omega arith), ne_eqb t 1 (λ e. omega arith), ne_eqb t 2 (λ e. omega arith), ne_eqb t 3 (λ e. omega arith), ne_eqb t 4 (λ e. omega arith), and-false)
-
-  pub by_tag_lem : (x : Operand) → operand_ok (tags_of binds any binder) x ≡ by_tag x.tag x.value
-  by_tag_lem x = tagged x.tag x.value
+use Rattle.rulebook.specs.Parts.{operand_ok, unused, operands_ok}
 
 -- ---- some operands, of which the first n are used
 abbrev pub used_ok : List ℕ → ℕ → ℕ → Operand → Bool

@@ -3,14 +3,14 @@ use mathlib.Core.Path.{◌≡◌, refl}
 use mathlib.Core.Bool.{Bool, true, false, cond, not, ◌||◌}
 use mathlib.Core.List.{List}
 use mathlib.Core.Logic.{⊎_elim}
-use Prim.Native.Nat.{ℕ, zero, suc, ◌+◌, ◌-◌, ◌≤◌, ◌<◌}
+use Prim.Native.Nat.{ℕ, zero, suc, ◌+◌, ◌-◌, ◌*◌, ◌≤◌, ◌<◌}
 use native.Mathlib.Omega.{arith}
 use native.Mathlib.Nat.{le_of_suc-le-suc, not-suc-le-zero, eq-or-lt_of_le}
 use lib.Dec.{ltb, eqb}
 use lib.ListN.{length, get_or, take}
 use borrow.Author.Tests.{ltb-true, ltb-false, lt-ltb, le-ltb, eqb-true, eqb-false}
-use Rattle.rulebook.specs.Parts.{NeverFall, room_ok}
-use Rattle.rulebook.proofs.Owners.{times, times_next}
+use Rattle.rulebook.specs.Parts.{owners_in, NeverFall, room_ok}
+use Rattle.rulebook.proofs.Owners.{times, times_next, owner_there, owner_is, earlier}
 
 -- an owner is at most each one after it
 up_to : (l : List ℕ) (k : ℕ) → NeverFall l k → (i j : ℕ) → i ≤ j → j ≤ k → get_or l i 0 ≤ get_or l j 0
@@ -68,3 +68,13 @@ room_look limit l k pos h good = pick (ltb k limit) (eqb (get_or l (k - limit) 0
           times_most t l (suc (k - limit)) k (λ i p q.
               eqb-false (get_or l (k - limit) 0) t f (omega (arith, up i (k - limit) (le_of_suc-le-suc p) (omega arith), up (k - limit) k (omega arith) (omega arith)))) (omega arith),
         ))
+
+-- and of the records themselves
+pub room_back : (w : ℕ) (s : List ℕ) (limit k : ℕ) → 0 < w → w * k + w ≤ length s → 0 < limit → NeverFall (owners_in w s) k
+    → room_ok limit (owners_in w s) k ≡ (ltb k limit || not (eqb (get_or s (w * (k - limit)) 0) (get_or s (w * k) 0)))
+room_back w s limit k p h pos good =
+    rw (
+      room_look limit (owners_in w s) k pos (owner_there w s k h p) good,
+      owner_is w s (k - limit) (earlier w k (k - limit) (length s) (omega arith) h) p,
+      owner_is w s k h p,
+    )

@@ -1,15 +1,13 @@
 // Aspects: each is read once, whole and by value.
 ghost use Rattle.std.specs.Prelude.{◌≡◌, [], ◌∷◌, ◌+◌, ◌*◌, ◌≤◌, length};
-ghost use Rattle.words.specs.Lists.{first_bad};
+ghost use Rattle.words.specs.Lists.{first_failing};
 ghost use Rattle.net.specs.Image.{nodes_in, aspects_in};
 ghost use Rattle.rulebook.specs.Rulebook.{aspect_ok};
 ghost use Rattle.rulebook.specs.Steps.{alone, once_each, head_ok, cut_ok, names_ok};
 
-use crate::nodes::{advice_below, condition_below};
-use crate::parts::{
-    capability_ok, count_ok, is_alone, once_each, operand_ok, operands_ok, owner_ok, speaks_of,
-};
-use net::{Aspect, Operand, aspect_at};
+use crate::nodes::below;
+use crate::parts::{Tags, capability_ok, count_ok, is_alone, once_each, owner_ok, speaks_of};
+use net::{Advice, Aspect, Condition, Node, Operand, Tag, count, nth};
 
 // Whether the capability, the count and the byte after them are good.
 fn head_ok(x: Aspect) -> bool
@@ -23,7 +21,7 @@ fn head_ok(x: Aspect) -> bool
 fn are_apart(x: Operand, y: Operand) -> bool
     ensures { result ≡ alone 1 x (y ∷ []) }
 {
-    (x.tag != 1) | !speaks_of(1, x.value, y)
+    !x.has(Tag::Variable) | !speaks_of(x.tag, x.value, y)
 }
 
 // Whether source, target and fields take no variable twice.
@@ -31,8 +29,10 @@ fn are_apart(x: Operand, y: Operand) -> bool
 fn takes_once(source: Operand, target: Operand, l: [Operand; 4]) -> bool
     ensures { result ≡ once_each 1 (source ∷ target ∷ l) }
 {
+    let variable = u16::from(Tag::Variable);
     are_apart(source, target)
-        & (is_alone(1, source, l, 0) & (is_alone(1, target, l, 0) & once_each(1, l)))
+        & (is_alone(variable, source, l, 0)
+            & (is_alone(variable, target, l, 0) & once_each(variable, l)))
 }
 
 // Whether the cut is good.
@@ -43,9 +43,9 @@ fn cut_ok(x: Aspect) -> bool
     let source = x.source;
     let target = x.target;
     let l = x.fields;
-    operand_ok(source, false, true, false)
-        && (operand_ok(target, false, true, false)
-            && (operands_ok(l, x.count, false, true, true) && takes_once(source, target, l)))
+    Tags::SOUGHT.allow(source)
+        && (Tags::SOUGHT.allow(target)
+            && (Tags::CUT.allow_first(x.count, l) && takes_once(source, target, l)))
 }
 
 // Whether it names a condition and a recommendation.
@@ -53,8 +53,8 @@ fn cut_ok(x: Aspect) -> bool
 fn names_ok(nodes: &[u8], x: Aspect) -> bool
     ensures { result ≡ names_ok (nodes_in nodes.now) x }
 {
-    let n = nodes.len() / 24;
-    condition_below(nodes, n, x.condition) & advice_below(nodes, n, x.recommendation)
+    let n = count::<Node>(nodes);
+    below::<Condition>(nodes, n, x.condition) & below::<Advice>(nodes, n, x.recommendation)
 }
 
 // Whether aspect k is good where those before it are.
@@ -62,22 +62,13 @@ fn aspect_ok(aspects: &[u8], nodes: &[u8], sites: usize, k: usize) -> bool
     requires { 32 * k + 32 ≤ length aspects.now }
     ensures { result ≡ aspect_ok sites (nodes_in nodes.now) (aspects_in aspects.now) k }
 {
-    let x = aspect_at(aspects, 32 * k);
-    owner_ok(aspects, 32, sites, k) && (head_ok(x) && (cut_ok(x) && names_ok(nodes, x)))
+    let x: Aspect = nth(aspects, k);
+    owner_ok::<Aspect>(aspects, sites, k) && (head_ok(x) && (cut_ok(x) && names_ok(nodes, x)))
 }
 
-// The first bad aspect, or how many there are.
-#[tactic(auto, using(words::proofs::First::first_none, words::proofs::First::first_more, words::proofs::First::first_stops, words::proofs::Tables::table_length))]
-pub fn first_bad_aspect(aspects: &[u8], nodes: &[u8], sites: usize) -> usize
-    ensures { (result ≡ first_bad (aspect_ok sites (nodes_in nodes.now) (aspects_in aspects.now)) (length (aspects_in aspects.now))) × (result ≤ length (aspects_in aspects.now)) }
+// The first bad aspect.
+pub fn first_bad_aspect(aspects: &[u8], nodes: &[u8], sites: usize) -> Option<usize>
+    ensures { result ≡ first_failing (aspect_ok sites (nodes_in nodes.now) (aspects_in aspects.now)) (length (aspects_in aspects.now)) }
 {
-    let n = aspects.len() / 32;
-    let mut k = 0;
-    while k < n {
-        if !aspect_ok(aspects, nodes, sites, k) {
-            return k;
-        }
-        k += 1;
-    }
-    n
+    (0..count::<Aspect>(aspects)).find(|&k| !aspect_ok(aspects, nodes, sites, k))
 }

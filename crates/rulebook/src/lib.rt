@@ -8,7 +8,4 @@ mod parts;
 
 pub use aspects::first_bad_aspect;
 pub use nodes::first_bad_node;
-pub use parts::{
-    capability_ok, count_ok, is_alone, once_each, operand_ok, operands_ok, owner_ok, room_ok,
-    speaks_of,
-};
+pub use parts::{Tags, capability_ok, count_ok, is_alone, once_each, owner_ok, room_ok, speaks_of};

@@ -1,217 +1,154 @@
 // Nodes: each is read once, whole and by value, and judged by its kind; the depths of those before it stand in a row, so that each depth is
 // worked out once.
-ghost use Rattle.std.specs.Prelude.{◌≡◌, true, cond, ◌&&◌, ◌||◌, ℕ, ◌+◌, ◌*◌, ◌≤◌, ◌<◌, max, length, get_or, ltb, leb, eqb};
-ghost use Rattle.words.specs.Lists.{first_bad};
+ghost use Rattle.std.specs.Prelude.{◌≡◌, ◌&&◌, ℕ, Bool, ◌+◌, ◌*◌, ◌≤◌, length, ltb, leb};
+ghost use Rattle.words.specs.Lists.{first_failing};
 ghost use Rattle.net.specs.Records.{node_width};
-ghost use Rattle.net.specs.Net.{names, place_of, Rising, is_there, node_at, depth_limit, most_nodes};
+ghost use Rattle.net.specs.Net.{names, Rising, node_at, most_nodes};
 ghost use Rattle.net.specs.Image.{sites_in, nodes_in};
-ghost use Rattle.rulebook.specs.Rulebook.{is_condition, is_advice, has_one, has_two, child_ok, first_ok, second_ok, asked_ok, depth_of, node_ok};
-ghost use Rattle.rulebook.specs.Steps.{shape_ok, depth_at};
+ghost use Rattle.rulebook.specs.Rulebook.{asked_ok, node_ok};
+ghost use Rattle.rulebook.specs.Steps.{parts_of, child_depth, part_depth, depth_at};
 
-use crate::parts::{count_ok, operands_ok};
-use net::{Node, node_at, place_of};
-use words::Found;
+use crate::parts::{Tags, count_ok};
+use net::{Advice, Condition, Node, count, nth, place_of};
 
 // There are at most so many nodes, and each is at most so deep.
 const MOST_NODES: usize = 1024;
 
 const DEPTH_LIMIT: u8 = 8;
 
-// Whether a kind is a condition's or a recommendation's.
-fn is_kind(kind: u8) -> bool
-    ensures { result ≡ ((leb 1 kind && leb kind 8) || (leb 16 kind && leb kind 24)) }
-{
-    ((1 <= kind) & (kind <= 8)) | ((16 <= kind) & (kind <= 24))
+// What stands in a or b of a node: the number of a child, which is a condition or a recommendation, the name of a place, or a number up to this.
+#[derive(Clone, Copy, PartialEq, Eq, Debug)]
+pub enum Part {
+    Condition,
+    Advice,
+    Place,
+    UpTo(u16),
 }
 
-// Whether a kind has two children.
-fn has_two(kind: u8) -> bool
-    ensures { result ≡ has_two kind }
+// What stands in a and in b, by the node's kind; no node has another kind.
+fn parts(kind: u8) -> Option<(Part, Part)>
+    ensures { result ≡ parts_of kind }
 {
-    (kind == 3) | ((kind == 4) | (19 <= kind))
+    const NOTHING: Part = Part::UpTo(0);
+    if let Ok(condition) = Condition::try_from(kind) {
+        return Some(match condition {
+            Condition::Always | Condition::Equal => (NOTHING, NOTHING),
+            Condition::Not => (Part::Condition, NOTHING),
+            Condition::And | Condition::Or => (Part::Condition, Part::Condition),
+            Condition::Test => (Part::Place, NOTHING),
+            Condition::Dominates => (Part::UpTo(7), Part::UpTo(7)),
+            Condition::Grants => (Part::Advice, NOTHING),
+        });
+    }
+    Some(match Advice::try_from(kind).ok()? {
+        Advice::Constant => (Part::UpTo(3), NOTHING),
+        Advice::Of => (Part::Condition, NOTHING),
+        Advice::Not => (Part::Advice, NOTHING),
+        Advice::Two(_) => (Part::Advice, Part::Advice),
+    })
 }
 
-// Whether a kind has a child.
-fn has_one(kind: u8) -> bool
-    ensures { result ≡ has_one kind }
-{
-    (kind == 2) | ((kind == 8) | ((kind == 17) | ((kind == 18) | has_two(kind))))
+// One of the two sorts of nodes, conditions and recommendations.
+pub trait Sort {
+    ghost holds: { ℕ → Bool };
+
+    // Whether a kind is of the sort.
+    fn has(kind: u8) -> bool
+        ensures { result ≡ holds kind };
 }
 
-// Whether node j is lower than k and its kind one of low..high.
+impl Sort for Condition {
+    ghost holds = { λ kind. leb 1 kind && leb kind 8 };
+
+    fn has(kind: u8) -> bool {
+        Condition::try_from(kind).is_ok()
+    }
+}
+
+impl Sort for Advice {
+    ghost holds = { λ kind. leb 16 kind && leb kind 24 };
+
+    fn has(kind: u8) -> bool {
+        Advice::try_from(kind).is_ok()
+    }
+}
+
+// Whether node j is lower than k and of this sort.
 #[tactic(auto, using(crate::proofs::Depths::kind_is))]
-fn kind_below(nodes: &[u8], k: usize, j: u16, low: u8, high: u8) -> bool
+pub fn below<S: Sort>(nodes: &[u8], k: usize, j: u16) -> bool
     requires { 24 * k ≤ length nodes.now }
-    ensures { result ≡ (ltb j k && (leb low (node_at (nodes_in nodes.now) j).kind && leb (node_at (nodes_in nodes.now) j).kind high)) }
+    ensures { result ≡ (ltb j k && S.holds (node_at (nodes_in nodes.now) j).kind) }
 {
-    let i = j as usize;
-    if k <= i {
-        return false;
-    }
-    let kind = nodes[24 * i];
-    (low <= kind) & (kind <= high)
+    let j = usize::from(j);
+    j < k && S::has(nodes[24 * j])
 }
 
-// Whether node j is lower than k and a condition.
-pub fn condition_below(nodes: &[u8], k: usize, j: u16) -> bool
-    requires { 24 * k ≤ length nodes.now }
-    ensures { result ≡ (ltb j k && is_condition (node_at (nodes_in nodes.now) j)) }
+// The depth of child j, which has to be of this sort, of the node after the row.
+fn child_depth<S: Sort>(nodes: &[u8], row: &[u8], j: u16) -> Option<u8>
+    requires { 24 * length row.now ≤ length nodes.now }
+    ensures { result ≡ child_depth (λ x. S.holds x.kind) (nodes_in nodes.now) row.now j }
 {
-    kind_below(nodes, k, j, 1, 8)
-}
-
-// Whether node j is lower than k and a recommendation.
-pub fn advice_below(nodes: &[u8], k: usize, j: u16) -> bool
-    requires { 24 * k ≤ length nodes.now }
-    ensures { result ≡ (ltb j k && is_advice (node_at (nodes_in nodes.now) j)) }
-{
-    kind_below(nodes, k, j, 16, 24)
-}
-
-// Whether node j may be a child of node k, which is of this kind.
-fn child_ok(nodes: &[u8], k: usize, kind: u8, j: u16) -> bool
-    requires { 24 * k ≤ length nodes.now }
-    ensures { result ≡ child_ok (nodes_in nodes.now) k kind j }
-{
-    if (kind <= 4) | (kind == 17) {
-        return condition_below(nodes, k, j);
-    }
-    advice_below(nodes, k, j)
-}
-
-// Whether a name is a site's.
-fn is_place(sites: &[u8], name: u16) -> bool
-    requires { Rising (names (sites_in sites.now)) }
-    ensures { result ≡ is_there (place_of (names (sites_in sites.now)) name) }
-{
-    match place_of(sites, name) {
-        Found::At(_) => true,
-        Found::Nothing => false,
+    if below::<S>(nodes, row.len(), j) {
+        Some(row[usize::from(j)])
+    } else {
+        None
     }
 }
 
-// The most that may stand in a where it is neither a child nor a place: a term, a value, or nothing.
-fn most_first(kind: u8) -> u16
-    ensures { result ≡ cond (eqb kind 7) 7 (cond (eqb kind 16) 3 0) }
+// The depth of what stands in this part of the node after the row, 0 of what is no child; none where it is bad.
+fn part_depth(nodes: &[u8], sites: &[u8], row: &[u8], part: Part, v: u16) -> Option<u8>
+    requires { (24 * length row.now ≤ length nodes.now) × Rising (names (sites_in sites.now)) }
+    ensures { result ≡ part_depth (names (sites_in sites.now)) (nodes_in nodes.now) row.now part v }
 {
-    match kind {
-        7 => 7,
-        16 => 3,
-        _ => 0,
+    match part {
+        Part::Condition => child_depth::<Condition>(nodes, row, v),
+        Part::Advice => child_depth::<Advice>(nodes, row, v),
+        Part::Place => place_of(sites, v).and(Some(0)),
+        Part::UpTo(most) => (v <= most).then_some(0),
     }
-}
-
-// Whether a is good.
-fn first_ok(nodes: &[u8], sites: &[u8], k: usize, x: Node) -> bool
-    requires { (24 * k ≤ length nodes.now) × Rising (names (sites_in sites.now)) }
-    ensures { result ≡ first_ok (names (sites_in sites.now)) (nodes_in nodes.now) k x }
-{
-    if has_one(x.kind) {
-        return child_ok(nodes, k, x.kind, x.a);
-    }
-    if x.kind == 6 {
-        return is_place(sites, x.a);
-    }
-    x.a <= most_first(x.kind)
-}
-
-// The most that may stand in b where it is no child: a term, or nothing.
-fn most_second(kind: u8) -> u16
-    ensures { result ≡ cond (eqb kind 7) 7 0 }
-{
-    if kind == 7 { 7 } else { 0 }
-}
-
-// Whether b is good.
-fn second_ok(nodes: &[u8], k: usize, x: Node) -> bool
-    requires { 24 * k ≤ length nodes.now }
-    ensures { result ≡ second_ok (nodes_in nodes.now) k x }
-{
-    if has_two(x.kind) {
-        return child_ok(nodes, k, x.kind, x.b);
-    }
-    x.b <= most_second(x.kind)
 }
 
 // Whether the count and the operands are good.
 fn asked_ok(x: Node) -> bool
     ensures { result ≡ asked_ok x }
 {
-    let kind = x.kind;
     let l = x.fields;
-    match kind {
-        6 => count_ok(x.count) && operands_ok(l, x.count, false, true, false),
-        5 => x.count == 0 && operands_ok(l, 2, false, false, false),
-        _ => x.count == 0 && operands_ok(l, 0, false, false, false),
+    match Condition::try_from(x.kind) {
+        Ok(Condition::Test) => count_ok(x.count) && Tags::SOUGHT.allow_first(x.count, l),
+        Ok(Condition::Equal) => x.count == 0 && Tags::PLAIN.allow_first(2, l),
+        _ => x.count == 0 && Tags::PLAIN.allow_first(0, l),
     }
 }
 
-// Whether a node is good but for its depth.
-#[tactic(auto, unfolding(crate::specs::Steps::shape_ok))]
-fn shape_ok(nodes: &[u8], sites: &[u8], k: usize, x: Node) -> bool
-    requires { (24 * k ≤ length nodes.now) × Rising (names (sites_in sites.now)) }
-    ensures { result ≡ shape_ok (names (sites_in sites.now)) (nodes_in nodes.now) k x }
+// The depth of the node after the row, which has those of all before it; none where it is bad.
+#[tactic(auto, using(crate::proofs::Depths::node_is, crate::proofs::Depths::good_rest, crate::proofs::Depths::bad_rest))]
+fn depth_at(nodes: &[u8], sites: &[u8], row: &[u8]) -> Option<u8>
+    requires { (24 * length row.now + 24 ≤ length nodes.now) × Rising (names (sites_in sites.now)) }
+    ensures { result ≡ depth_at (names (sites_in sites.now)) (nodes_in nodes.now) row.now }
 {
-    is_kind(x.kind)
-        && (x.zero == 0
-            && (first_ok(nodes, sites, k, x) && (second_ok(nodes, k, x) && asked_ok(x))))
-}
-
-// The depth of child j, or 0 where there is none.
-fn child_depth(row: &[u8], there: bool, j: u16) -> u8
-    requires { there ≡ true → j < length row.now }
-    ensures { result ≡ cond there (get_or row.now j 0) 0 }
-{
-    let i = j as usize;
-    if there { row[i] } else { 0 }
-}
-
-// The larger of two depths.
-fn deeper(x: u8, y: u8) -> u8
-    ensures { result ≡ max x y }
-{
-    if x < y { y } else { x }
-}
-
-// The depth of a node over the row of those before it.
-fn depth(x: Node, row: &[u8]) -> u8
-    requires { (has_one x.kind ≡ true → x.a < length row.now) × (has_two x.kind ≡ true → x.b < length row.now) × ((j : ℕ) → get_or row.now j 0 ≤ depth_limit) }
-    ensures { result ≡ depth_of x row.now }
-{
-    1 + deeper(
-        child_depth(row, has_one(x.kind), x.a),
-        child_depth(row, has_two(x.kind), x.b),
-    )
-}
-
-// The depth of node k over the row of those before it, and one more than the limit where it is bad for another reason.
-#[tactic(auto, using(crate::proofs::Depths::node_is, crate::proofs::Depths::first_before, crate::proofs::Depths::second_before), unfolding(crate::specs::Steps::depth_at))]
-fn depth_at(nodes: &[u8], sites: &[u8], k: usize, row: &[u8]) -> u8
-    requires { (24 * k + 24 ≤ length nodes.now) × (length row.now ≡ k) × ((j : ℕ) → get_or row.now j 0 ≤ depth_limit) × Rising (names (sites_in sites.now)) }
-    ensures { result ≡ depth_at (names (sites_in sites.now)) (nodes_in nodes.now) k row.now }
-{
-    let x = node_at(nodes, 24 * k);
-    if !shape_ok(nodes, sites, k, x) {
-        return DEPTH_LIMIT + 1;
+    let x: Node = nth(nodes, row.len());
+    let (a, b) = parts(x.kind)?;
+    let first = part_depth(nodes, sites, row, a, x.a)?;
+    let second = part_depth(nodes, sites, row, b, x.b)?;
+    let deepest = first.max(second);
+    if (x.zero == 0) & (asked_ok(x) & (deepest < DEPTH_LIMIT)) {
+        Some(1 + deepest)
+    } else {
+        None
     }
-    depth(x, row)
 }
 
-// The first bad node, or how many there are.
-pub fn first_bad_node(nodes: &[u8], sites: &[u8]) -> usize
+// The first bad node.
+pub fn first_bad_node(nodes: &[u8], sites: &[u8]) -> Option<usize>
     requires { (length nodes.now ≤ node_width * most_nodes) × Rising (names (sites_in sites.now)) }
-    ensures { (result ≡ first_bad (node_ok (names (sites_in sites.now)) (nodes_in nodes.now)) (length (nodes_in nodes.now))) × (result ≤ length (nodes_in nodes.now)) }
+    ensures { result ≡ first_failing (node_ok (names (sites_in sites.now)) (nodes_in nodes.now)) (length (nodes_in nodes.now)) }
 {
-    let n = nodes.len() / 24;
     let mut row = [0u8; MOST_NODES];
-    let mut k = 0;
-    while k < n {
-        let x = depth_at(nodes, sites, k, &row[..k]);
-        if DEPTH_LIMIT < x {
-            return k;
-        }
-        row[k] = x;
-        k += 1;
+    for k in 0..count::<Node>(nodes) {
+        let Some(depth) = depth_at(nodes, sites, &row[..k]) else {
+            return Some(k);
+        };
+        row[k] = depth;
     }
-    n
+    None
 }

@@ -1,12 +1,12 @@
 -- The stepping program: what it prints for what it reads, from the meaning of images and steps alone. "`farmstep` reads from standard input
 -- an image length u32, the image, then one byte per step." Assumes nothing.
-use Rattle.std.specs.Prelude.{ℕ, ◌-◌, Bool, cond, ◌&&◌, List, [], ◌∷◌, ◌++◌, map, ltb, leb, length, get_or, take, drop}
+use Rattle.std.specs.Prelude.{ℕ, ◌-◌, Bool, cond, ◌&&◌, List, [], ◌∷◌, ◌++◌, map, ltb, leb, length, get_or, take, drop, Result}
 use Rattle.words.specs.Bytes.{u32_at}
 use Rattle.net.specs.Net.{State, Rules, site_at, held}
 use Rattle.net.specs.Image.{state_in, rules_in}
 use Rattle.net.specs.declared.Site.{Site}
 use Rattle.format.specs.Verdict.{number_of, record_of, is_accepted, verdict_of}
-use Rattle.format.specs.declared.Verdict.{Verdict}
+use Rattle.format.specs.declared.Refusal.{Refusal}
 use Rattle.stepping.specs.Step.{answers, final, number_of as answerNumber}
 use Rattle.monitor.specs.Memory.{most_steps}
 use Rattle.lines.specs.Lines.{decimal, line, lines}
@@ -17,7 +17,7 @@ abbrev pub input_line : List ℕ
 input_line = line (105 ∷ 110 ∷ 112 ∷ 117 ∷ 116 ∷ []) []
 
 -- "`load N R` (number, record)"
-unfoldable pub load_line : Verdict → List ℕ
+unfoldable pub load_line : Result Unit Refusal → List ℕ
 load_line v = line (108 ∷ 111 ∷ 97 ∷ 100 ∷ []) (number_of v ∷ record_of v ∷ [])
 
 -- `run 7`
@@ -52,5 +52,12 @@ loaded_text image steps = cond (is_accepted (verdict_of image)) (ran_text (rules
 unfoldable pub input_ok : List ℕ → Bool
 input_ok s = leb (length s) 60000 && (leb 4 (length s) && leb (u32_at s 0) (length s - 4))
 
+-- the image and the steps of such an input
+abbrev pub image_of : List ℕ → List ℕ
+image_of s = take (u32_at s 0) (drop 4 s)
+
+abbrev pub steps_of : List ℕ → List ℕ
+steps_of s = drop (u32_at s 0) (drop 4 s)
+
 unfoldable pub printed : List ℕ → List ℕ
-printed s = cond (input_ok s) (loaded_text (take (u32_at s 0) (drop 4 s)) (drop (u32_at s 0) (drop 4 s))) input_line
+printed s = cond (input_ok s) (loaded_text (image_of s) (steps_of s)) input_line

@@ -1,17 +1,18 @@
 // The work of the stepping program: an image is loaded, steps are run on it, and what came of it is put into lent bytes as lines of text.
 #![tactic(auto)]
 
-ghost use Rattle.std.specs.Prelude.{◌≡◌, true, ◌+◌, ◌*◌, ◌/◌, ◌≤◌, ◌<◌, length};
+ghost use Rattle.std.specs.Prelude.{◌≡◌, true, false, ◌+◌, ◌*◌, ◌/◌, ◌≤◌, ◌<◌, length, MatchOption};
 ghost use Rattle.io.specs.Counts.{IsPrefixLen};
 ghost use Rattle.net.specs.Net.{held};
 ghost use Rattle.net.specs.Image.{rows_in};
 ghost use Rattle.monitor.specs.Memory.{holds_net, rules_held, state_held};
 ghost use Rattle.lines.specs.Lines.{Put};
-ghost use Rattle.stepper.specs.Farmstep.{input_ok, step_line, site_line, step_lines, site_lines, ran_text, loaded_text, printed};
+ghost use Rattle.lines.specs.Pages.{Adds};
+ghost use Rattle.stepper.specs.Farmstep.{input_ok, image_of, steps_of, step_line, site_line, step_lines, site_lines, ran_text, loaded_text, printed};
 ghost use Rattle.stepper.specs.Bodies.{site_lines_of};
 
-use monitor::{Ran, Saved};
-use net::Site;
+use lines::Page;
+use net::{Row, Site};
 
 // The most bytes of an input.
 const MOST_INPUT: usize = 60000;
@@ -19,141 +20,142 @@ const MOST_INPUT: usize = 60000;
 // Room for what any input makes the program print: 4,096 lines of steps and 32 of sites, each number 20 digits wide.
 pub const ROOM: usize = 262144;
 
+// The kinds of the bodies that are printed.
+const SITES: u16 = 1;
+
+const ROWS: u16 = 5;
+
 // Puts the line of a step.
-fn step_line(out: &mut [u8], at: usize, index: usize, site: u8, answer: u8) -> usize
-    requires { at + 63 ≤ length out.old }
-    ensures { Put out.old at (step_line index site answer) out.new result }
+fn step_line(page: &mut Page, index: usize, site: u8, answer: u8)
+    requires { page.old.at + 63 ≤ length page.old.bytes.now }
+    ensures { Adds (step_line index site answer) page.old page.new }
 {
-    let next = lines::number(out, at, index as u64);
-    let numbers = [site as u64, answer as u64];
-    lines::line(out, next, b"", &numbers)
+    page.number(index as u64);
+    let numbers = [u64::from(site), u64::from(answer)];
+    page.line(b"", &numbers);
 }
 
 // Puts a line per step.
-fn step_lines(steps: &[u8], answers: &[u8], out: &mut [u8]) -> usize
-    requires { (length steps.now ≤ length answers.now) × (63 * length steps.now ≤ length out.old) }
-    ensures { Put out.old 0 (step_lines steps.now answers.now) out.new result }
+fn step_lines(page: &mut Page, steps: &[u8], answers: &[u8])
+    requires { (length steps.now ≤ length answers.now) × (page.old.at + 63 * length steps.now ≤ length page.old.bytes.now) }
+    ensures { Adds (step_lines steps.now answers.now) page.old page.new }
 {
-    let mut next = 0;
-    let mut i = 0;
-    while i < steps.len() {
-        next = step_line(out, next, i, steps[i], answers[i]);
-        i += 1;
+    for (i, (site, answer)) in steps.iter().zip(answers).enumerate() {
+        step_line(page, i, *site, *answer);
     }
-    next
 }
 
 // Puts the line of a site that holds so many rows.
-fn site_line(out: &mut [u8], at: usize, site: Site, rows: usize) -> usize
-    requires { at + 110 ≤ length out.old }
-    ensures { Put out.old at (site_line site rows) out.new result }
+#[tactic(auto, unfolding(crate::specs::Farmstep::site_line))]
+fn site_line(page: &mut Page, site: Site, rows: usize)
+    requires { page.old.at + 110 ≤ length page.old.bytes.now }
+    ensures { Adds (site_line site rows) page.old page.new }
 {
     let numbers = [
-        site.name as u64,
-        site.hs as u64,
-        site.ho as u64,
+        u64::from(site.name),
+        u64::from(site.hs),
+        u64::from(site.ho),
         rows as u64,
-        site.lost as u64,
+        u64::from(site.lost),
     ];
-    lines::line(out, at, b"site", &numbers)
+    page.line(b"site", &numbers);
 }
 
 // How many rows a site holds.
 fn rows_held(rows: &[u8], site: usize) -> usize
     ensures { result ≡ held site (rows_in rows.now) }
 {
-    let n = rows.len() / format::ROW_WIDTH;
-    let mut count = 0;
-    let mut k = 0;
-    while k < n {
-        if rows[format::ROW_WIDTH * k] as usize == site {
-            count += 1;
-        }
-        k += 1;
-    }
-    count
+    (0..net::count::<Row>(rows))
+        .filter(|k| usize::from(net::nth::<Row>(rows, *k).owner) == site)
+        .count()
 }
 
 // Puts a line per site, from the bodies of sites and rows.
-fn site_lines(sites: &[u8], rows: &[u8], out: &mut [u8], at: usize) -> usize
-    requires { at + 110 * (length sites.now / 32) ≤ length out.old }
-    ensures { Put out.old at (site_lines_of sites.now rows.now) out.new result }
+fn site_lines(page: &mut Page, sites: &[u8], rows: &[u8])
+    requires { page.old.at + 110 * (length sites.now / 32) ≤ length page.old.bytes.now }
+    ensures { Adds (site_lines_of sites.now rows.now) page.old page.new }
 {
-    let n = sites.len() / format::SITE_WIDTH;
-    let mut next = at;
-    let mut k = 0;
-    while k < n {
-        let site = net::site_at(sites, format::SITE_WIDTH * k);
-        next = site_line(out, next, site, rows_held(rows, k));
-        k += 1;
+    for k in 0..net::count::<Site>(sites) {
+        let site = net::nth::<Site>(sites, k);
+        site_line(page, site, rows_held(rows, k));
     }
-    next
 }
 
 // Puts a line per site of the net that memory holds.
-fn net_lines(memory: &[u8], out: &mut [u8], at: usize) -> usize
-    requires { (holds_net memory.now ≡ true) × (at + 3520 ≤ length out.old) }
-    ensures { Put out.old at (site_lines (state_held memory.now)) out.new result }
+fn net_lines(page: &mut Page, memory: &[u8])
+    requires { (holds_net memory.now ≡ true) × (page.old.at + 3520 ≤ length page.old.bytes.now) }
+    ensures { Adds (site_lines (state_held memory.now)) page.old page.new }
 {
     let mut saved = io::large_buffer();
-    let Saved::Whole(n) = monitor::save(memory, &mut saved) else {
-        return at;
-    };
+    let n = monitor::save(memory, &mut saved).unwrap();
     let image = &saved[..n];
-    site_lines(monitor::body(image, 1), monitor::body(image, 5), out, at)
+    site_lines(
+        page,
+        monitor::body(image, SITES),
+        monitor::body(image, ROWS),
+    );
 }
 
 // Runs the steps on memory that holds a net, and puts a line per step and per site.
-fn ran(memory: &mut [u8], steps: &[u8], out: &mut [u8]) -> usize
-    requires { (holds_net memory.old ≡ true) × (262144 ≤ length out.old) }
-    ensures { Put out.old 0 (ran_text (rules_held memory.old) (state_held memory.old) steps.now) out.new result }
+fn ran(page: &mut Page, memory: &mut [u8], steps: &[u8])
+    requires { (holds_net memory.old ≡ true) × (page.old.at + 262144 ≤ length page.old.bytes.now) }
+    ensures { Adds (ran_text (rules_held memory.old) (state_held memory.old) steps.now) page.old page.new }
 {
     let mut answers = io::buffer();
-    let Ran::Through = monitor::run(memory, steps, &mut answers) else {
-        return lines::text(out, 0, b"run 7\n");
+    let Ok(()) = monitor::run(memory, steps, &mut answers) else {
+        return page.line(b"run", &[7]);
     };
-    let next = step_lines(steps, &answers, out);
-    net_lines(memory, out, next)
+    step_lines(page, steps, &answers);
+    net_lines(page, memory);
 }
 
 // Loads the image, and runs the steps on its net.
-fn loaded(image: &[u8], steps: &[u8], out: &mut [u8]) -> usize
-    requires { 262144 ≤ length out.old }
-    ensures { Put out.old 0 (loaded_text image.now steps.now) out.new result }
+fn loaded(page: &mut Page, image: &[u8], steps: &[u8])
+    requires { page.old.at + 262144 ≤ length page.old.bytes.now }
+    ensures { Adds (loaded_text image.now steps.now) page.old page.new }
 {
     let mut memory = io::large_buffer();
     let verdict = monitor::load(image, &mut memory);
-    let number = format::number(verdict);
-    if number != 0 {
-        let numbers = [number as u64, format::record(verdict) as u64];
-        return lines::line(out, 0, b"load", &numbers);
-    }
-    ran(&mut memory, steps, out)
+    let Ok(()) = verdict else {
+        let numbers = [
+            u64::from(format::number(verdict)),
+            u64::from(format::record(verdict)),
+        ];
+        return page.line(b"load", &numbers);
+    };
+    ran(page, &mut memory, steps);
 }
 
-// Whether an input has a length and an image as long as it says, and is not too long.
-fn input_ok(input: &[u8]) -> bool
-    ensures { result ≡ input_ok input.now }
+// The image and the steps of an input, if it has a length and an image as long as it says, and is not too long.
+fn parts(input: &[u8]) -> Option<(&[u8], &[u8])>
+    ensures { MatchOption result (input_ok input.now ≡ false)
+        (λ p. (input_ok input.now ≡ true) × (p.0.now ≡ image_of input.now) × (p.1.now ≡ steps_of input.now)) }
 {
     if MOST_INPUT < input.len() {
-        return false;
+        return None;
     }
-    if input.len() < 4 {
-        return false;
-    }
-    words::long_at(input, 0) <= input.len() - 4
+    let (length, rest) = input.split_at_checked(4)?;
+    rest.split_at_checked(words::long_at(length, 0))
 }
 
 // Puts what the program prints for an input.
+fn input_lines(page: &mut Page, input: &[u8])
+    requires { page.old.at + 262144 ≤ length page.old.bytes.now }
+    ensures { Adds (printed input.now) page.old page.new }
+{
+    match parts(input) {
+        Some((image, steps)) => loaded(page, image, steps),
+        None => page.line(b"input", &[]),
+    }
+}
+
+// Puts what the program prints for an input, from the front on, and answers how long it is.
 pub fn farmstep(input: &[u8], out: &mut [u8]) -> usize
     requires { 262144 ≤ length out.old }
     ensures put { Put out.old 0 (printed input.now) out.new result }
     ensures prefix_len { IsPrefixLen result out.new }
 {
-    if !input_ok(input) {
-        return lines::text(out, 0, b"input\n");
-    }
-    let length = words::long_at(input, 0);
-    let rest = &input[4..];
-    loaded(&rest[0..length], &rest[length..], out)
+    let mut page = Page { bytes: out, at: 0 };
+    input_lines(&mut page, input);
+    page.at
 }

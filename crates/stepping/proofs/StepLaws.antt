@@ -1,4 +1,5 @@
 -- What steps are: how a step starts, what asking finds, what doing leaves. By the cases of the definitions, gone through once. Assumes nothing.
+use Rattle.std.specs.Prelude.{None, Option, Some}
 use mathlib.Core.Path.{◌≡◌, refl, sym, ap, ◌∙◌}
 use mathlib.Core.Bool.{Bool, true, false, cond}
 use mathlib.Core.List.{List}
@@ -6,14 +7,13 @@ use Prim.Native.Nat.{ℕ, ◌<◌}
 use lib.Dec.{ltb, eqb}
 use lib.ListN.{length, get_or, length-map}
 use borrow.Author.Tests.{ltb-true, eqb-true}
-use Rattle.words.specs.declared.Found.{Found}
-use Rattle.words.specs.declared.Found.TheVariants.{At, Nothing}
 use Rattle.words.proofs.Truth.{no}
 use Rattle.words.proofs.First.{found_at}
 use Rattle.belnap.specs.Belnap.{grants}
 use Rattle.net.specs.Net.{State, Rules, site_at, row_at, program, names, place_of}
 use Rattle.net.specs.declared.Row.{Row}
-use Rattle.policy.specs.House.{Act, judge}
+use Rattle.policy.specs.House.{judge}
+use Rattle.policy.specs.declared.Act.{Act}
 use Rattle.stepping.specs.Step.{stop, go, next, doing, going, start, hits, oldest, chosen, Plan, refuse, put, get, getting, judged, planned, asking, done, step, is_granted}
 use Rattle.stepping.specs.declared.Answer.{Answer}
 use Rattle.stepping.specs.declared.Answer.TheVariants.{Granted, Done, Denied, NoMatch, NoPlace, NoSite}
@@ -26,7 +26,7 @@ pub record Begun (s : State) (i t : ℕ) : Type 0 where
   pub target : t < length s.sites
 
 -- the chosen row is one, and hits
-pub chosen-hits : (a : Act) (l : List Row) (k : ℕ) → chosen a l ≡ At k → (k < length l) × (hits a.target a.action (row_at l k) ≡ true)
+pub chosen-hits : (a : Act) (l : List Row) (k : ℕ) → chosen a l ≡ Some k → (k < length l) × (hits a.target a.action (row_at l k) ≡ true)
 unfolding oldest
 chosen-hits a l k e = found_at (λ j. hits a.target a.action (row_at l j)) (length l) k e
 
@@ -35,13 +35,13 @@ pub data Plans (r : Rules) (s : State) (i : ℕ) : Plan → Type 0 where
   refuses : (a : Answer) → is_granted a ≡ false → Plans r s i (refuse a)
   puts : (t : ℕ) → Begun s i t → grants (judge r s.sites s.rows (doing s i t)) ≡ true → (next s i).capability ≡ 1 → Plans r s i (put (doing s i t))
   gets : (t k : ℕ) → Begun s i t → grants (judge r s.sites s.rows (doing s i t)) ≡ true → eqb (next s i).capability 1 ≡ false
-      → chosen (doing s i t) s.rows ≡ At k → Plans r s i (get (doing s i t) k)
+      → chosen (doing s i t) s.rows ≡ Some k → Plans r s i (get (doing s i t) k)
 
 module _ (r : Rules) (s : State) (i : ℕ) where
   module _ (t : ℕ) (h : Begun s i t) (g : grants (judge r s.sites s.rows (doing s i t)) ≡ true) where
-    plans_getting : eqb (next s i).capability 1 ≡ false → (c : Found) → chosen (doing s i t) s.rows ≡ c → Plans r s i (getting (doing s i t) c)
-    plans_getting q (At k) e = gets t k h g q e
-    plans_getting q Nothing e = refuses NoMatch refl
+    plans_getting : eqb (next s i).capability 1 ≡ false → (c : Option ℕ) → chosen (doing s i t) s.rows ≡ c → Plans r s i (getting (doing s i t) c)
+    plans_getting q (Some k) e = gets t k h g q e
+    plans_getting q None e = refuses NoMatch refl
 
     plans_allowed : (b : Bool) → eqb (next s i).capability 1 ≡ b
         → Plans r s i (cond b (put (doing s i t)) (getting (doing s i t) (chosen (doing s i t) s.rows)))
@@ -52,17 +52,17 @@ module _ (r : Rules) (s : State) (i : ℕ) where
   plans_judged t h true g = plans_allowed t h g (eqb (next s i).capability 1) refl
   plans_judged t h false g = refuses Denied refl
 
-  plans_from : (b₁ b₂ : Bool) (p : Found) → ltb i (length s.sites) ≡ b₁
+  plans_from : (b₁ b₂ : Bool) (p : Option ℕ) → ltb i (length s.sites) ≡ b₁
       → ltb (site_at s.sites i).position (length (program i s.actions)) ≡ b₂ → place_of (names s.sites) (next s i).target.value ≡ p
       → Plans r s i (planned r s (cond b₁ (cond b₂ (going s i p) (stop Done)) (stop NoSite)))
   unfolding place_of
-  plans_from true true (At t) e f g =
+  plans_from true true (Some t) e f g =
       plans_judged t (record {
         source = ltb-true i (length s.sites) e;
         unfinished = ltb-true (site_at s.sites i).position (length (program i s.actions)) f;
         target = rw (length-map s.sites (λ x. x.name)) at (found_at (λ k. eqb (get_or (names s.sites) k 0) (next s i).target.value) (length (names s.sites)) t g).0;
       }) (grants (judge r s.sites s.rows (doing s i t))) refl
-  plans_from true true Nothing e f g = refuses NoPlace refl
+  plans_from true true None e f g = refuses NoPlace refl
   plans_from true false p e f g = refuses Done refl
   plans_from false b₂ p e f g = refuses NoSite refl
 
@@ -84,7 +84,7 @@ module _ (r : Rules) (s : State) (i : ℕ) where
     pub tried : act ≡ doing s i act.target
     pub granted : grants (judge r s.sites s.rows act) ≡ true
     pub capability : eqb act.action.capability 1 ≡ false
-    pub row : chosen act s.rows ≡ At k
+    pub row : chosen act s.rows ≡ Some k
 
   put_plan : (p : Plan) → Plans r s i p → (act : Act) → p ≡ put act → Puts act
   put_plan p (refuses a n) act e = no (cc)

@@ -1,17 +1,16 @@
 -- One step, and a run of steps. Assumes nothing.
-use Rattle.std.specs.Prelude.{ℕ, zero, suc, Bool, true, false, cond, ◌&&◌, List, [], ◌∷◌, map, ltb, leb, eqb, length, get_or, set}
+use Rattle.std.specs.Prelude.{ℕ, zero, suc, Bool, true, false, cond, ◌&&◌, List, [], ◌∷◌, map, ltb, leb, eqb, length, get_or, set, None, Option, Some}
 use Rattle.level.specs.Level.{join}
 use Rattle.belnap.specs.Belnap.{grants}
 use Rattle.words.specs.Lists.{first_bad, first, insert_at, remove_at}
 use Rattle.net.specs.Net.{State, Rules, store_limit, site_at, action_at, row_at, program, held, names, place_of, is_variable, fields_of, values_of}
 use Rattle.policy.specs.Match.{fits, bound}
-use Rattle.policy.specs.House.{Act, name, judge}
+use Rattle.policy.specs.House.{name, judge}
+use Rattle.policy.specs.declared.Act.{Act}
 use Rattle.net.specs.declared.Operand.{Operand}
 use Rattle.net.specs.declared.Site.{Site}
 use Rattle.net.specs.declared.Action.{Action}
 use Rattle.net.specs.declared.Row.{Row}
-use Rattle.words.specs.declared.Found.{Found}
-use Rattle.words.specs.declared.Found.TheVariants.{At, Nothing}
 use Rattle.stepping.specs.declared.Answer.{Answer}
 use Rattle.stepping.specs.declared.Answer.TheVariants.{Granted, Done, Denied, NoMatch, NoPlace, NoSite, NoNet}
 
@@ -63,9 +62,9 @@ next s i = resolved_action (site_at s.sites i).vars (action_at (program i s.acti
 abbrev pub doing : State → ℕ → ℕ → Act
 doing s i t = record { source = i; target = t; action = next s i }
 
-abbrev pub going : State → ℕ → Found → Start
-going s i (At t) = go (doing s i t)
-going s i Nothing = stop NoPlace
+abbrev pub going : State → ℕ → Option ℕ → Start
+going s i (Some t) = go (doing s i t)
+going s i None = stop NoPlace
 
 -- "1. Site number not below the number of sites: NOSITE. 2. Position at the program's end: DONE. 3. Target's value is no site's name: NOPLACE."
 unfoldable pub start : State → ℕ → Start
@@ -82,10 +81,10 @@ abbrev pub hits : ℕ → Action → Row → Bool
 hits target x r = eqb r.owner target && fits (fields_of x) (values_of r)
 
 -- the oldest that hits
-unfoldable pub oldest : ℕ → Action → List Row → Found
+unfoldable pub oldest : ℕ → Action → List Row → Option ℕ
 oldest target x l = first (λ k. hits target x (row_at l k)) (length l)
 
-abbrev pub chosen : Act → List Row → Found
+abbrev pub chosen : Act → List Row → Option ℕ
 chosen act = oldest act.target act.action
 
 -- ---- asking: what the step will do, steps 1 to 5. An answer that is no grant; a put; a take or read of row k
@@ -95,9 +94,9 @@ pub data Plan : Type 0 where
   get : Act → ℕ → Plan
 
 -- step 5: "None: NOMATCH."
-abbrev pub getting : Act → Found → Plan
-getting act (At k) = get act k
-getting act Nothing = refuse NoMatch
+abbrev pub getting : Act → Option ℕ → Plan
+getting act (Some k) = get act k
+getting act None = refuse NoMatch
 
 abbrev pub allowed : State → Act → Plan
 allowed s act = cond (eqb act.action.capability 1) (put act) (getting act (chosen act s.rows))

@@ -4,7 +4,7 @@
 ghost use Rattle.std.specs.Prelude.{◌≡◌};
 ghost use Rattle.stepping.specs.Step.{number_of};
 
-#[derive(Clone, Copy)]
+#[derive(Clone, Copy, PartialEq, Eq, Debug)]
 pub enum Answer {
     Granted,
     Done,
@@ -16,16 +16,18 @@ pub enum Answer {
 }
 
 // The paper's number of each answer.
-pub fn number(a: Answer) -> u8
-    ensures { result ≡ number_of a }
-{
-    match a {
-        Answer::Granted => 0,
-        Answer::Done => 1,
-        Answer::Denied => 2,
-        Answer::NoMatch => 3,
-        Answer::NoPlace => 4,
-        Answer::NoSite => 5,
-        Answer::NoNet => 6,
+impl From<Answer> for u8 {
+    ghost from_gives = { λ answer n. n ≡ number_of answer };
+
+    fn from(answer: Answer) -> u8 {
+        match answer {
+            Answer::Granted => 0,
+            Answer::Done => 1,
+            Answer::Denied => 2,
+            Answer::NoMatch => 3,
+            Answer::NoPlace => 4,
+            Answer::NoSite => 5,
+            Answer::NoNet => 6,
+        }
     }
 }

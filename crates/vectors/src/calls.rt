@@ -1,127 +1,153 @@
-// Each public call, and the line of what it gave back. Memory is the first m bytes of a buffer, and its sum is that of the whole buffer.
+// Each operation: its arguments are read, the call is made, and the line of what it gave back is printed. Memory is the first m bytes of
+// a buffer, and its sum is that of the whole buffer.
 ghost use Rattle.std.specs.Prelude.{◌≤◌, length};
 
-use crate::say::{print, say, say_bytes, sum};
-use monitor::{Ran, Saved};
-use std::io::Result;
+use crate::script::{Script, Stop};
+use monitor::{RunError, SaveError};
+use std::fmt;
+
+// The most answers and the most output bytes.
+const ANSWERS: usize = 5000;
+
+const OUTPUT: usize = 65536;
+
+// What answers and output are filled with before a call.
+const FILL: u8 = 170;
 
 // The most answers that a line shows.
 const SHOWN: usize = 40;
 
-// The number of what a run answers.
-fn ran(r: Ran) -> u64 {
-    match r {
-        Ran::Through => 0,
-        Ran::Long => 7,
-        Ran::NoNet => 6,
+// Answers as a line shows them.
+#[derive(Clone, Copy)]
+struct Shown<'a> {
+    answers: &'a [u8],
+}
+
+impl fmt::Display for Shown<'_> {
+    fn fmt<W: fmt::Write>(&self, f: &mut fmt::Formatter<W>) -> fmt::Result {
+        for answer in self.answers.iter().take(SHOWN) {
+            write!(f, " {answer}")?;
+        }
+        Ok(())
     }
 }
 
-// The number of what saving answers, and the length.
-fn saved(s: Saved) -> [u64; 2] {
-    match s {
-        Saved::Whole(n) => [0, n as u64],
-        Saved::NoNet => [6, 0],
-        Saved::Room => [20, 0],
+// The Adler-32 sum of bytes. A loop, since no bound of what a `fold` carries is known to its closure, and the sums have to fit.
+fn sum(bytes: &[u8]) -> u64 {
+    let mut a = 1;
+    let mut b = 0;
+    for x in bytes {
+        a = (a + u64::from(*x)) % 65521;
+        b = (b + a) % 65521;
     }
+    b * 65536 + a
 }
 
-// check N R
-pub fn check(rt: &impl Print, image: &[u8]) -> Result<()> {
-    let verdict = monitor::check(image);
-    let mut line = [0u8; 1024];
-    let numbers = [
-        format::number(verdict) as u64,
-        format::record(verdict) as u64,
-    ];
-    let n = say(&mut line, 0, b"check", &numbers);
-    print(rt, &mut line, n)
-}
-
-// load N R memory S
-pub fn load(rt: &impl Print, image: &[u8], memory: &mut [u8], m: usize) -> Result<()>
-    requires { m ≤ length memory.old }
+// CHECK: u32 n, n image bytes. check N R
+pub fn check(rt: &impl Print, script: &mut Script) -> Result<(), Stop>
+    ensures { length script.new.rest.now ≤ length script.old.rest.now }
 {
-    let verdict = monitor::load(image, &mut memory[0..m]);
-    let mut line = [0u8; 1024];
-    let numbers = [
-        format::number(verdict) as u64,
-        format::record(verdict) as u64,
-    ];
-    let n = say(&mut line, 0, b"load", &numbers);
-    let n = say(&mut line, n, b" memory", &[sum(memory)]);
-    print(rt, &mut line, n)
+    let verdict = monitor::check(script.counted()?);
+    println!(rt;
+        "check {} {}",
+        format::number(verdict),
+        format::record(verdict)
+    )?;
+    Ok(())
 }
 
-// step N memory S
-pub fn step(rt: &impl Print, memory: &mut [u8], m: usize, site: usize) -> Result<()>
-    requires { m ≤ length memory.old }
+// LOAD: u32 m, u32 n, n image bytes. load N R memory S
+pub fn load(rt: &impl Print, script: &mut Script, memory: &mut [u8]) -> Result<(), Stop>
+    ensures { length script.new.rest.now ≤ length script.old.rest.now }
 {
-    let answer = monitor::step(&mut memory[0..m], site);
-    let mut line = [0u8; 1024];
-    let n = say(&mut line, 0, b"step", &[stepping::number(answer) as u64]);
-    let n = say(&mut line, n, b" memory", &[sum(memory)]);
-    print(rt, &mut line, n)
+    let m = script.at_most(memory.len())?;
+    let image = script.counted()?;
+    let verdict = monitor::load(image, &mut memory[..m]);
+    println!(rt;
+        "load {} {} memory {}",
+        format::number(verdict),
+        format::record(verdict),
+        sum(memory)
+    )?;
+    Ok(())
 }
 
-// The least of two sizes.
-fn least(a: usize, b: usize) -> usize
-    ensures { (result ≤ a) × (result ≤ b) }
+// STEP: u32 m, u64 site. step N memory S
+pub fn step(rt: &impl Print, script: &mut Script, memory: &mut [u8]) -> Result<(), Stop>
+    ensures { length script.new.rest.now ≤ length script.old.rest.now }
 {
-    if a < b { a } else { b }
+    let m = script.at_most(memory.len())?;
+    let site = script.site()?;
+    let answer = monitor::step(&mut memory[..m], site);
+    println!(rt; "step {} memory {}", u8::from(answer), sum(memory))?;
+    Ok(())
 }
 
-// Runs steps on the first m bytes of memory, with k bytes for the answers.
-fn stepped(memory: &mut [u8], m: usize, steps: &[u8], answers: &mut [u8], k: usize) -> u64
-    requires { (m ≤ length memory.old) × (k ≤ length answers.old) }
+// RUN: u32 m, u32 n, n step bytes, u32 k. run N, the first 40 of k answer bytes, sum S memory S
+pub fn run(rt: &impl Print, script: &mut Script, memory: &mut [u8]) -> Result<(), Stop>
+    ensures { length script.new.rest.now ≤ length script.old.rest.now }
 {
-    let part = &mut memory[0..m];
-    let given = &mut answers[0..k];
-    ran(monitor::run(part, steps, given))
+    let m = script.at_most(memory.len())?;
+    let steps = script.counted()?;
+    let k = script.at_most(ANSWERS)?;
+    let mut answers = [FILL; ANSWERS];
+    let answers = &mut answers[..k];
+    let number = match monitor::run(&mut memory[..m], steps, answers) {
+        Ok(()) => 0,
+        Err(RunError::Long) => 7,
+        Err(RunError::NoNet) => 6,
+    };
+    println!(rt;
+        "run {number}{} sum {} memory {}",
+        Shown { answers },
+        sum(answers),
+        sum(memory)
+    )?;
+    Ok(())
 }
 
-// run N, the first 40 answer bytes, sum S memory S
-fn run_line(rt: &impl Print, memory: &[u8], number: u64, answers: &[u8]) -> Result<()> {
-    let mut line = [0u8; 1024];
-    let shown = least(answers.len(), SHOWN);
-    let n = say(&mut line, 0, b"run", &[number]);
-    let n = say_bytes(&mut line, n, &answers[0..shown]);
-    let n = say(&mut line, n, b" sum", &[sum(answers)]);
-    let n = say(&mut line, n, b" memory", &[sum(memory)]);
-    print(rt, &mut line, n)
-}
-
-// Runs, and prints the line.
-pub fn run(
-    rt: &impl Print,
-    memory: &mut [u8],
-    m: usize,
-    steps: &[u8],
-    answers: &mut [u8],
-    k: usize,
-) -> Result<()>
-    requires { (m ≤ length memory.old) × (k ≤ length answers.old) }
+// SAVE: u32 m, u32 k. save N L sum S
+pub fn save(rt: &impl Print, script: &mut Script, memory: &[u8]) -> Result<(), Stop>
+    ensures { length script.new.rest.now ≤ length script.old.rest.now }
 {
-    let number = stepped(memory, m, steps, answers, k);
-    run_line(rt, memory, number, &answers[0..k])
+    let m = script.at_most(memory.len())?;
+    let k = script.at_most(OUTPUT)?;
+    let mut output = [FILL; OUTPUT];
+    let output = &mut output[..k];
+    let (number, length) = match monitor::save(&memory[..m], output) {
+        Ok(n) => (0, n),
+        Err(SaveError::NoNet) => (6, 0),
+        Err(SaveError::Room) => (20, 0),
+    };
+    println!(rt; "save {number} {length} sum {}", sum(output))?;
+    Ok(())
 }
 
-// save N L sum S
-pub fn save(rt: &impl Print, memory: &[u8], output: &mut [u8], k: usize) -> Result<()>
-    requires { k ≤ length output.old }
+// BODY: u32 n, n image bytes, u16 kind. body L sum S
+pub fn body(rt: &impl Print, script: &mut Script) -> Result<(), Stop>
+    ensures { length script.new.rest.now ≤ length script.old.rest.now }
 {
-    let numbers = saved(monitor::save(memory, &mut output[0..k]));
-    let mut line = [0u8; 1024];
-    let n = say(&mut line, 0, b"save", &numbers);
-    let n = say(&mut line, n, b" sum", &[sum(&output[0..k])]);
-    print(rt, &mut line, n)
+    let image = script.counted()?;
+    let part = monitor::body(image, script.word()?);
+    println!(rt; "body {} sum {}", part.len(), sum(part))?;
+    Ok(())
 }
 
-// body L sum S
-pub fn body(rt: &impl Print, image: &[u8], kind: u16) -> Result<()> {
-    let part = monitor::body(image, kind);
-    let mut line = [0u8; 1024];
-    let n = say(&mut line, 0, b"body", &[part.len() as u64]);
-    let n = say(&mut line, n, b" sum", &[sum(part)]);
-    print(rt, &mut line, n)
+// POKE: u32 at, u8 value.
+pub fn poke(script: &mut Script, memory: &mut [u8]) -> Result<(), Stop>
+    ensures { length script.new.rest.now ≤ length script.old.rest.now }
+{
+    let place = memory.get_mut(script.long()?).ok_or(Stop::Script)?;
+    *place = script.byte()?;
+    Ok(())
+}
+
+// TEXT: u8 n, n bytes, printed as a line.
+pub fn text(rt: &impl Print, script: &mut Script) -> Result<(), Stop>
+    ensures { length script.new.rest.now ≤ length script.old.rest.now }
+{
+    let n = script.byte()?;
+    rt.write_all(script.bytes(usize::from(n))?)?;
+    rt.write_all(b"\n")?;
+    Ok(())
 }

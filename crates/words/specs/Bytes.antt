@@ -45,14 +45,6 @@ stretch a e m = take (e - a) (drop a m)
 unfoldable pub splice : List ℕ → ℕ → List ℕ → List ℕ
 splice m at b = take at m ++ b ++ drop (at + length b) m
 
--- the bytes at..end moved up by `by` places, over what was there; the first `by` of them stay as well
-unfoldable pub raised : ℕ → ℕ → ℕ → List ℕ → List ℕ
-raised by at end m = take (at + by) m ++ (stretch at end m ++ drop (end + by) m)
-
--- the bytes at + by..end moved down by `by` places; the last `by` of them stay as well
-unfoldable pub lowered : ℕ → ℕ → ℕ → List ℕ → List ℕ
-lowered by at end m = take at m ++ (stretch (at + by) end m ++ drop (end - by) m)
-
 -- b put in at byte at, the bytes at..end after it, over as many as b has
 unfoldable pub inserted : List ℕ → ℕ → ℕ → List ℕ → List ℕ
 inserted b at end m = take at m ++ (b ++ (stretch at end m ++ drop (end + length b) m))

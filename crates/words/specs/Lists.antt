@@ -1,7 +1,5 @@
 -- The few ways of going through lists that the meaning of the monitor needs. Assumes nothing.
-use Rattle.std.specs.Prelude.{ℕ, zero, suc, ◌+◌, Bool, true, false, cond, not, ◌&&◌, ◌||◌, List, [], ◌∷◌, ◌++◌, ltb, eqb, get_or, take, drop}
-use Rattle.words.specs.declared.Found.{Found}
-use Rattle.words.specs.declared.Found.TheVariants.{At, Nothing}
+use Rattle.std.specs.Prelude.{ℕ, zero, suc, ◌+◌, Bool, true, false, cond, not, ◌&&◌, ◌||◌, List, [], ◌∷◌, ◌++◌, ltb, eqb, get_or, take, drop, None, Option, Some}
 
 -- the first number below n at which a test fails, or n where it holds at each
 unfoldable pub first_bad : (ℕ → Bool) → ℕ → ℕ
@@ -13,10 +11,14 @@ abbrev pub every : (ℕ → Bool) → ℕ → Bool
 every ok n = eqb (first_bad ok n) n
 
 -- the first number below n at which a test holds
-unfoldable pub first : (ℕ → Bool) → ℕ → Found
+unfoldable pub first : (ℕ → Bool) → ℕ → Option ℕ
 first ok n =
     let k = first_bad (λ j. not (ok j)) n in
-    cond (ltb k n) (At k) Nothing
+    cond (ltb k n) (Some k) None
+
+-- the first number below n at which a test fails, where there is one
+abbrev pub first_failing : (ℕ → Bool) → ℕ → Option ℕ
+first_failing ok n = cond (ltb (first_bad ok n) n) (Some (first_bad ok n)) None
 
 -- values worked out one after the other, each from its number and those before it
 unfoldable pub fill : (ℕ → List ℕ → ℕ) → ℕ → List ℕ

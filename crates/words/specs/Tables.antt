@@ -1,5 +1,5 @@
 -- Tables of records of one width: a record is read at its place in the bytes, and written as bytes. Assumes nothing.
-use Rattle.std.specs.Prelude.{ℕ, zero, suc, ◌+◌, ◌-◌, ◌*◌, ◌/◌, ◌≤◌, ◌<◌, cond, List, [], ◌∷◌, ◌++◌, ltb, length, get_or}
+use Rattle.std.specs.Prelude.{ℕ, zero, suc, ◌+◌, ◌-◌, ◌*◌, ◌/◌, ◌≤◌, ◌<◌, Bool, true, false, cond, List, [], ◌∷◌, ◌++◌, ltb, length, get_or}
 use Rattle.words.specs.Lists.{first_bad}
 
 module _ {A : Type 0} where
@@ -35,3 +35,12 @@ starts_more owner l = build 33 (λ t. cond (ltb owner t) (get_or l t 0 + 1) (get
 
 unfoldable pub starts_less : ℕ → List ℕ → List ℕ
 starts_less owner l = build 33 (λ t. cond (ltb owner t) (get_or l t 0 - 1) (get_or l t 0))
+
+-- the starts once a record of this owner was added, or taken out; and starts that can be so moved
+abbrev pub starts_moved : Bool → ℕ → List ℕ → List ℕ
+starts_moved true = starts_more
+starts_moved false = starts_less
+
+abbrev pub Movable : Bool → ℕ → List ℕ → Type 0
+Movable true owner l = (t : ℕ) → get_or l t 0 < 65535
+Movable false owner l = (t : ℕ) → owner < t → t < 33 → 0 < get_or l t 0

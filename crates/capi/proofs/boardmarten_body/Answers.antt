@@ -1,36 +1,52 @@
 -- `capi::boardmarten_body` meets its contract: no such kind, an empty part, or a part whose place the directory gives. Assumes nothing.
-use Rattle.std.proofs.Common.{◌≡◌, ℕ, List, length, sym, ap, ◌∙◌, arith}
+use Rattle.std.proofs.Common.{rules, ◌≡◌, ℕ, ◌+◌, ◌*◌, ◌<◌, List, length, ap, ◌∙◌, arith}
+use borrow.Author.Tests.{tests}
 use Rattle.format.specs.Verdict.{body_of}
+use Rattle.words.specs.Bytes.{u32_at}
+use Rattle.capi.specs.Packed.{packed_body}
 use Rattle.capi.proofs.Parts.{Part, part_of, packed_none, packed_no_kind, packed_part}
 use Rattle.capi.proofs.boardmarten_body.Goals as goal
 
--- a part that is not empty is of an accepted image
-part_there : (image : List ℕ) (kind : ℕ) (part : List ℕ) → part ≡ body_of image kind → (length part ≡ 0 → ⊥) → Part image kind (length (body_of image kind))
-part_there image kind part e n = part_of image kind (λ z. n (ap length e ∙ z))
+-- a part that is not empty is of an accepted image, and is packed with the place that the directory gives
+module _ (image : List ℕ) (kind : ℕ) {part : List ℕ} {k : ℕ} (e : part ≡ body_of image k) (f : k ≡ kind) (n : length part ≡ 0 → ⊥) where
+  part_is : part ≡ body_of image kind
+  part_is = e ∙ ap (body_of image) f
 
-pub returns-then-kind-gt5 : goal.returns-then-kind-gt5
-returns-then-kind-gt5 c = packed_no_kind c.args.image.now c.args.kind c.if-kind-gt5.true
+  part_there : Part image kind (length part)
+  part_there = rw part_is (part_of image kind (λ z. n (ap length part_is ∙ z)))
 
-pub returns-then-part-eq0 : goal.returns-then-part-eq0
-returns-then-part-eq0 c =
-    packed_none c.args.image.now c.args.kind (ap length (sym c.body-part.ensures.result_value) ∙ c.if-part-eq0.true)
+  packed_is : {start : ℕ} → start ≡ u32_at image (8 * k) → start + 4294967296 * length part ≡ packed_body image kind
+  packed_is s = rw (s, f, part_is) (packed_part image kind (λ z. n (ap length part_is ∙ z)))
+
+pub returns-in_default : goal.returns-in_default
+returns-in_default c =
+    let n : c.args.kind < 65536 → ⊥ = search rules in
+    packed_no_kind c.args.image.now c.args.kind (omega arith)
+
+pub returns-then-is_empty : goal.returns-then-is_empty
+returns-then-is_empty c =
+    let l : length c.body-part.result.now ≡ 0 = search (rules, tests) in
+    packed_none c.args.image.now c.args.kind (rw (← c.in-Ok.ensures.1, ← c.body-part.ensures.result_value) l)
 
 pub long_at-start-requires : goal.long_at-start-requires
 long_at-start-requires c =
-    let p = part_there c.args.image.now c.args.kind c.body-part.result.now c.body-part.ensures.result_value c.if-part-eq0.false in
-    omega (arith, p.readable)
+    let n : length c.body-part.result.now ≡ 0 → ⊥ = search (rules, tests) in
+    let p = part_there c.args.image.now c.args.kind c.body-part.ensures.result_value c.in-Ok.ensures.1 n in
+    omega (arith, p.readable, p.known, c.in-Ok.ensures.1)
 
 pub overflow_mul-result : goal.overflow_mul-result
 overflow_mul-result c =
-    let p = part_there c.args.image.now c.args.kind c.body-part.result.now c.body-part.ensures.result_value c.if-part-eq0.false in
-    omega (arith, p.short, ap length c.body-part.ensures.result_value)
+    let n : length c.body-part.result.now ≡ 0 → ⊥ = search (rules, tests) in
+    let p = part_there c.args.image.now c.args.kind c.body-part.ensures.result_value c.in-Ok.ensures.1 n in
+    omega (arith, p.short)
 
 pub overflow_add-result : goal.overflow_add-result
 overflow_add-result c =
-    let p = part_there c.args.image.now c.args.kind c.body-part.result.now c.body-part.ensures.result_value c.if-part-eq0.false in
-    omega (arith, p.short, ap length c.body-part.ensures.result_value)
+    let n : length c.body-part.result.now ≡ 0 → ⊥ = search (rules, tests) in
+    let p = part_there c.args.image.now c.args.kind c.body-part.ensures.result_value c.in-Ok.ensures.1 n in
+    omega (arith, p.short)
 
 pub returns : goal.returns
 returns c =
-    rw (c.long_at-start.ensures.0, c.body-part.ensures.result_value)
-    (packed_part c.args.image.now c.args.kind (λ z. c.if-part-eq0.false (ap length c.body-part.ensures.result_value ∙ z)))
+    let n : length c.body-part.result.now ≡ 0 → ⊥ = search (rules, tests) in
+    packed_is c.args.image.now c.args.kind c.body-part.ensures.result_value c.in-Ok.ensures.1 n (rw c.from.ensures at c.long_at-start.ensures.0)

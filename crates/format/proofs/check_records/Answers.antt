@@ -1,65 +1,65 @@
 -- `format::check_records` meets its contract: the first bad record of the first kind that has one, in the order of the verdict. Assumes nothing.
-use native.Mathlib.Omega.{arith}
-use Rattle.words.proofs.Truth.{below, not_below}
+use Rattle.std.proofs.lemmas.Result.{err_from_is_err_and}
+use Rattle.net.specs.Records.{site_width, node_width, aspect_width, read_site, read_node, read_aspect}
 use Rattle.format.specs.Verdict.{records_verdict}
 use Rattle.format.specs.Steps.{state_verdict}
-use Rattle.format.proofs.Refusals.{part_small, nodes_few, sites_are, site_is, then_rising, nodes_are, node_is, aspects-are, aspect_is}
+use Rattle.format.proofs.Refusals.{nodes_few, small, refused, passed, site_is, then_rising, node_is, aspect_is}
 use Rattle.format.proofs.check_records.Goals as goal
 
-pub overflow_cast-result : goal.overflow_cast-result
-overflow_cast-result c = omega (arith, part_small c.args.s.now c.requires 1 c.part-sites.ensures.result_value)
+pub refuse-requires-clause-small : goal.refuse-requires-clause-small
+refuse-requires-clause-small c = small c.args.image.bytes.now c.args.image.in_order read_site site_width 1 _ c.body-sites.ensures.result_value c.first_bad_site.ensures
 
-pub returns-then-site-n : goal.returns-then-site-n
+pub returns-in_err-refuse : goal.returns-in_err-refuse
 unfolding records_verdict
-returns-then-site-n c =
-    let s = c.args.s.now in
-    let p = c.part-sites.ensures.result_value in
-    let e = site_is s p c.first_bad_site-site.ensures.0 in
-    simp (below e (sites_are s p) c.if-site-n.true) (cc)
+returns-in_err-refuse c =
+    let p = err_from_is_err_and c.from_residual.result c.from_residual.ensures.1 in
+    let bad = refused _ _ _ (site_is c.args.image.bytes.now c.body-sites.ensures.result_value c.first_bad_site.ensures) c.in_err-refuse.ensures in
+    rw (p.1, p.2) (simp bad.0 (cc))
 
-pub first_bad_node-node-requires : goal.first_bad_node-node-requires
-first_bad_node-node-requires c =
-    let s = c.args.s.now in
-    let p = c.part-sites.ensures.result_value in
-    let no-site = not_below (site_is s p c.first_bad_site-site.ensures.0) (sites_are s p) c.if-site-n.false in
-    (nodes_few s c.requires c.part-nodes.ensures.result_value, then_rising s p no-site)
+pub first_bad_node-requires : goal.first_bad_node-requires
+first_bad_node-requires c =
+    let s = c.args.image.bytes.now in
+    let sites = c.body-sites.ensures.result_value in
+    let good = passed _ _ _ (site_is s sites c.first_bad_site.ensures) c.in_ok-refuse.ensures in
+    (nodes_few s c.args.image.in_order c.body-nodes.ensures.result_value, then_rising s sites good)
 
-pub overflow_cast-result-then-node-nodes : goal.overflow_cast-result-then-node-nodes
-overflow_cast-result-then-node-nodes c = omega (arith, part_small c.args.s.now c.requires 2 c.part-nodes.ensures.result_value)
+pub refuse-requires-2-clause-small : goal.refuse-requires-2-clause-small
+refuse-requires-2-clause-small c = small c.args.image.bytes.now c.args.image.in_order read_node node_width 2 _ c.body-nodes.ensures.result_value c.first_bad_node.ensures
 
-pub returns-then-node-nodes : goal.returns-then-node-nodes
+pub returns-in_err-refuse-2 : goal.returns-in_err-refuse-2
 unfolding records_verdict
-returns-then-node-nodes c =
-    let s = c.args.s.now in
-    let p = c.part-sites.ensures.result_value in
-    let q = c.part-nodes.ensures.result_value in
-    let no-site = not_below (site_is s p c.first_bad_site-site.ensures.0) (sites_are s p) c.if-site-n.false in
-    let e = node_is s p q c.first_bad_node-node.ensures.0 in
-    simp (no-site, below e (nodes_are s p q) c.if-node-nodes.true) (cc)
+returns-in_err-refuse-2 c =
+    let s = c.args.image.bytes.now in
+    let sites = c.body-sites.ensures.result_value in
+    let p = err_from_is_err_and c.from_residual-in_err-refuse-2.result c.from_residual-in_err-refuse-2.ensures.1 in
+    let good = passed _ _ _ (site_is s sites c.first_bad_site.ensures) c.in_ok-refuse.ensures in
+    let bad = refused _ _ _ (node_is s sites c.body-nodes.ensures.result_value c.first_bad_node.ensures) c.in_err-refuse-2.ensures in
+    rw (p.1, p.2) (simp (good, bad.0) (cc))
 
-pub overflow_cast-result-then-aspect-aspects : goal.overflow_cast-result-then-aspect-aspects
-overflow_cast-result-then-aspect-aspects c = omega (arith, part_small c.args.s.now c.requires 3 c.part-aspects.ensures.result_value)
+pub refuse-requires-3-clause-small : goal.refuse-requires-3-clause-small
+refuse-requires-3-clause-small c =
+    small c.args.image.bytes.now c.args.image.in_order read_aspect aspect_width 3 _ c.body-aspects.ensures.result_value c.first_bad_aspect.ensures
 
-pub returns-then-aspect-aspects : goal.returns-then-aspect-aspects
+pub returns-in_err-refuse-3 : goal.returns-in_err-refuse-3
 unfolding records_verdict
-returns-then-aspect-aspects c =
-    let s = c.args.s.now in
-    let p = c.part-sites.ensures.result_value in
-    let q = c.part-nodes.ensures.result_value in
-    let a = c.part-aspects.ensures.result_value in
-    let no-site = not_below (site_is s p c.first_bad_site-site.ensures.0) (sites_are s p) c.if-site-n.false in
-    let no-node = not_below (node_is s p q c.first_bad_node-node.ensures.0) (nodes_are s p q) c.if-node-nodes.false in
-    let e = aspect_is s p q a c.first_bad_aspect-aspect.ensures.0 in
-    simp (no-site, no-node, below e (aspects-are s p q a) c.if-aspect-aspects.true) (cc)
+returns-in_err-refuse-3 c =
+    let s = c.args.image.bytes.now in
+    let sites = c.body-sites.ensures.result_value in
+    let nodes = c.body-nodes.ensures.result_value in
+    let p = err_from_is_err_and c.from_residual-in_err-refuse-3.result c.from_residual-in_err-refuse-3.ensures.1 in
+    let good = passed _ _ _ (site_is s sites c.first_bad_site.ensures) c.in_ok-refuse.ensures in
+    let nodes_good = passed _ _ _ (node_is s sites nodes c.first_bad_node.ensures) c.in_ok-refuse-2.ensures in
+    let a = aspect_is s sites nodes c.body-aspects.ensures.result_value c.count.ensures c.first_bad_aspect.ensures in
+    let bad = refused _ _ _ a c.in_err-refuse-3.ensures in
+    rw (p.1, p.2) (simp (good, nodes_good, bad.0) (cc))
 
 pub returns : goal.returns
 unfolding records_verdict state_verdict
 returns c =
-    let s = c.args.s.now in
-    let p = c.part-sites.ensures.result_value in
-    let q = c.part-nodes.ensures.result_value in
-    let a = c.part-aspects.ensures.result_value in
-    let no-site = not_below (site_is s p c.first_bad_site-site.ensures.0) (sites_are s p) c.if-site-n.false in
-    let no-node = not_below (node_is s p q c.first_bad_node-node.ensures.0) (nodes_are s p q) c.if-node-nodes.false in
-    let e = aspect_is s p q a c.first_bad_aspect-aspect.ensures.0 in
-    simp (no-site, no-node, not_below e (aspects-are s p q a) c.if-aspect-aspects.false) c.check_state.ensures
+    let s = c.args.image.bytes.now in
+    let sites = c.body-sites.ensures.result_value in
+    let nodes = c.body-nodes.ensures.result_value in
+    let good = passed _ _ _ (site_is s sites c.first_bad_site.ensures) c.in_ok-refuse.ensures in
+    let nodes_good = passed _ _ _ (node_is s sites nodes c.first_bad_node.ensures) c.in_ok-refuse-2.ensures in
+    let a = aspect_is s sites nodes c.body-aspects.ensures.result_value c.count.ensures c.first_bad_aspect.ensures in
+    simp (good, nodes_good, passed _ _ _ a c.in_ok-refuse-3.ensures) c.check_state.ensures

@@ -1,67 +1,55 @@
 -- `format::check_state` meets its contract: the first bad record of the first kind that has one, in the order of the verdict. Assumes nothing.
-use native.Mathlib.Omega.{arith}
-use Rattle.words.proofs.Truth.{below, not_below}
+use Rattle.std.proofs.lemmas.Result.{err_from_is_err_and}
+use Rattle.net.specs.Records.{site_width, action_width, row_width, read_site, read_action, read_row}
 use Rattle.format.specs.Steps.{state_verdict}
-use Rattle.format.proofs.Refusals.{part_small, sites_are, actions_are, action_is, then_ordered, then_good, rows_are, row_is, state_is}
+use Rattle.format.proofs.Refusals.{small, step, refused, passed, action_is, then_ordered, then_good, row_is, state_is}
 use Rattle.format.proofs.check_state.Goals as goal
 
-pub overflow_cast-result : goal.overflow_cast-result
-overflow_cast-result c = omega (arith, part_small c.args.s.now c.requires 4 c.part-actions.ensures.result_value)
+pub refuse-requires-clause-small : goal.refuse-requires-clause-small
+refuse-requires-clause-small c =
+    small c.args.image.bytes.now c.args.image.in_order read_action action_width 4 _ c.body-actions.ensures.result_value c.first_bad_action.ensures
 
-pub returns-then-action-actions : goal.returns-then-action-actions
+pub returns-in_err-refuse : goal.returns-in_err-refuse
 unfolding state_verdict
-returns-then-action-actions c =
-    let s = c.args.s.now in
-    let p = c.part-sites.ensures.result_value in
-    let q = c.part-actions.ensures.result_value in
-    let e = action_is s p q c.first_bad_action-action.ensures.0 in
-    simp (below e (actions_are s p q) c.if-action-actions.true) (cc)
+returns-in_err-refuse c =
+    let s = c.args.image.bytes.now in
+    let a = action_is s c.body-sites.ensures.result_value c.body-actions.ensures.result_value c.count-n.ensures c.first_bad_action.ensures in
+    let p = err_from_is_err_and c.from_residual.result c.from_residual.ensures.1 in
+    let bad = refused _ _ _ a c.in_err-refuse.ensures in
+    rw (p.1, p.2) (simp bad.0 (cc))
 
-pub overflow_cast-result-then-row-rows : goal.overflow_cast-result-then-row-rows
-overflow_cast-result-then-row-rows c = omega (arith, part_small c.args.s.now c.requires 5 c.part-rows.ensures.result_value)
+pub refuse-requires-2-clause-small : goal.refuse-requires-2-clause-small
+refuse-requires-2-clause-small c = small c.args.image.bytes.now c.args.image.in_order read_row row_width 5 _ c.body.ensures.result_value c.first_bad_row.ensures
 
-pub returns-then-row-rows : goal.returns-then-row-rows
+pub returns-in_err-refuse-2 : goal.returns-in_err-refuse-2
 unfolding state_verdict
-returns-then-row-rows c =
-    let s = c.args.s.now in
-    let p = c.part-sites.ensures.result_value in
-    let q = c.part-actions.ensures.result_value in
-    let r = c.part-rows.ensures.result_value in
-    let no-action = not_below (action_is s p q c.first_bad_action-action.ensures.0) (actions_are s p q) c.if-action-actions.false in
-    let e = row_is s p r c.first_bad_row-row.ensures.0 in
-    simp (no-action, below e (rows_are s p r) c.if-row-rows.true) (cc)
+returns-in_err-refuse-2 c =
+    let s = c.args.image.bytes.now in
+    let sites = c.body-sites.ensures.result_value in
+    let a = action_is s sites c.body-actions.ensures.result_value c.count-n.ensures c.first_bad_action.ensures in
+    let r = row_is s sites c.body.ensures.result_value c.count-n.ensures c.first_bad_row.ensures in
+    let p = err_from_is_err_and c.from_residual-in_err-refuse-2.result c.from_residual-in_err-refuse-2.ensures.1 in
+    let bad = refused _ _ _ r c.in_err-refuse-2.ensures in
+    rw (p.1, p.2) (simp (passed _ _ _ a c.in_ok-refuse.ensures, bad.0) (cc))
 
-pub first_bad_state-state-requires : goal.first_bad_state-state-requires
-first_bad_state-state-requires c =
-    let s = c.args.s.now in
-    let p = c.part-sites.ensures.result_value in
-    let q = c.part-actions.ensures.result_value in
-    let no-action = not_below (action_is s p q c.first_bad_action-action.ensures.0) (actions_are s p q) c.if-action-actions.false in
-    (then_ordered s p q no-action, then_good s p q no-action)
+pub invariant_of-first_bad_state : goal.invariant_of-first_bad_state
+invariant_of-first_bad_state c =
+    let s = c.args.image.bytes.now in
+    let sites = c.body-sites.ensures.result_value in
+    let actions = c.body-actions.ensures.result_value in
+    let good = passed _ _ _ (action_is s sites actions c.count-n.ensures c.first_bad_action.ensures) c.in_ok-refuse.ensures in
+    record { in_order = then_ordered s sites actions good; good = then_good s sites actions good }
 
-pub overflow_cast-result-then-state-n : goal.overflow_cast-result-then-state-n
-overflow_cast-result-then-state-n c = omega (arith, part_small c.args.s.now c.requires 1 c.part-sites.ensures.result_value)
-
-pub returns-then-state-n : goal.returns-then-state-n
-unfolding state_verdict
-returns-then-state-n c =
-    let s = c.args.s.now in
-    let p = c.part-sites.ensures.result_value in
-    let q = c.part-actions.ensures.result_value in
-    let r = c.part-rows.ensures.result_value in
-    let no-action = not_below (action_is s p q c.first_bad_action-action.ensures.0) (actions_are s p q) c.if-action-actions.false in
-    let no-row = not_below (row_is s p r c.first_bad_row-row.ensures.0) (rows_are s p r) c.if-row-rows.false in
-    let e = state_is s p q c.first_bad_state-state.ensures.0 in
-    simp (no-action, no-row, below e (sites_are s p) c.if-state-n.true) (cc)
+pub refuse-requires-3-clause-small : goal.refuse-requires-3-clause-small
+refuse-requires-3-clause-small c = small c.args.image.bytes.now c.args.image.in_order read_site site_width 1 _ c.body-sites.ensures.result_value c.first_bad_state.ensures
 
 pub returns : goal.returns
 unfolding state_verdict
 returns c =
-    let s = c.args.s.now in
-    let p = c.part-sites.ensures.result_value in
-    let q = c.part-actions.ensures.result_value in
-    let r = c.part-rows.ensures.result_value in
-    let no-action = not_below (action_is s p q c.first_bad_action-action.ensures.0) (actions_are s p q) c.if-action-actions.false in
-    let no-row = not_below (row_is s p r c.first_bad_row-row.ensures.0) (rows_are s p r) c.if-row-rows.false in
-    let e = state_is s p q c.first_bad_state-state.ensures.0 in
-    simp (no-action, no-row, not_below e (sites_are s p) c.if-state-n.false)
+    let s = c.args.image.bytes.now in
+    let sites = c.body-sites.ensures.result_value in
+    let actions = c.body-actions.ensures.result_value in
+    let a = action_is s sites actions c.count-n.ensures c.first_bad_action.ensures in
+    let r = row_is s sites c.body.ensures.result_value c.count-n.ensures c.first_bad_row.ensures in
+    simp (passed _ _ _ a c.in_ok-refuse.ensures, passed _ _ _ r c.in_ok-refuse-2.ensures)
+    (step _ _ _ (state_is s sites actions c.first_bad_state.ensures) c.refuse-3.ensures)

@@ -1,32 +1,42 @@
 -- `monitor::tried` meets its contract: what asking found is done if it is a grant, and the starts of rows follow it. Assumes nothing.
-use Rattle.std.proofs.Common.{rules, sym, ap, ◌∙◌, eq-eqb, ne_eqb}
+use Rattle.std.proofs.Common.{rules, ◌∙◌}
 use Rattle.monitor.specs.Memory.{rules_held, state_held}
-use Rattle.monitor.specs.Plan.{starts_after}
-use Rattle.monitor.proofs.Doing.{tried_answer, tried_not}
+use Rattle.monitor.proofs.Holding.{holds_parts}
+use Rattle.monitor.proofs.Doing.{granted_answer, granted_source, refused_answer, tried_not}
 use Rattle.monitor.proofs.Recounting.{countable, starts_follow}
 use Rattle.monitor.proofs.tried.Goals as goal
 
+pub invariant_of-net : goal.invariant_of-net
+invariant_of-net c = record {
+  accepted = rw c.image_of.ensures (holds_parts c.args.memory.now c.requires.0).accepted;
+  started = rw c.image_of.ensures c.requires.1;
+}
+
 pub recount-requires : goal.recount-requires
 recount-requires c =
-    rw c.requires.1
-    (countable c.args.memory.now (λ k. search rules) c.requires.0 c.args.site c.asked-asked.result (eq-eqb _ _ (sym c.number.ensures ∙ c.if-number-eq0.true)) c.asked-asked.ensures)
+    rw (c.act.ensures, c.requires.1) (countable c.args.memory.now (λ k. search rules) c.requires.0 c.args.site c.in-Ok.grant (rw c.image_of.ensures at c.in-Ok.ensures))
 
-pub returns-then-number-eq0-clause-value : goal.returns-then-number-eq0-clause-value
-returns-then-number-eq0-clause-value c =
-    tried_answer (rules_held c.args.memory.now) (state_held c.args.memory.now) c.args.site c.asked-asked.result c.asked-asked.ensures
+pub act-requires-in-Ok : goal.act-requires-in-Ok
+act-requires-in-Ok c =
+    let m = c.args.memory.now in
+    let p = rw c.image_of.ensures at c.in-Ok.ensures in
+    (c.requires.0, rw (granted_source (rules_held m) (state_held m) c.args.site c.in-Ok.grant p) p)
 
-pub returns-then-number-eq0-clause-starts_kept : goal.returns-then-number-eq0-clause-starts_kept
-returns-then-number-eq0-clause-starts_kept c =
-    let x = c.asked-asked.result in
-    c.recount.ensures
-    ∙ ap (starts_after x.action.capability x.target) c.requires.1
-    ∙ starts_follow c.args.memory.now (λ k. search rules) c.requires.0 c.args.site x (eq-eqb _ _ (sym c.number.ensures ∙ c.if-number-eq0.true)) c.asked-asked.ensures c.act.ensures
+pub returns-in-Ok : goal.returns-in-Ok
+returns-in-Ok c =
+    let m = c.args.memory.now in
+    let p = rw c.image_of.ensures at c.in-Ok.ensures in
+    let x = c.in-Ok.grant in
+    let after = rw (granted_source (rules_held m) (state_held m) c.args.site x p) at c.act-in-Ok.ensures in
+    record {
+      value = granted_answer (rules_held m) (state_held m) c.args.site x p;
+      memory_after = after;
+      starts_kept = c.recount.ensures ∙ rw (c.act.ensures, c.requires.1) (starts_follow m (λ k. search rules) c.requires.0 c.args.site after x p);
+    }
 
-pub returns-else-number-eq0-clause-value : goal.returns-else-number-eq0-clause-value
-returns-else-number-eq0-clause-value c =
-    tried_answer (rules_held c.args.memory.now) (state_held c.args.memory.now) c.args.site c.asked-asked.result c.asked-asked.ensures
-
-pub returns-else-number-eq0-clause-memory_after : goal.returns-else-number-eq0-clause-memory_after
-returns-else-number-eq0-clause-memory_after c =
-    tried_not c.args.memory.now (λ k. search rules) c.requires.0 c.args.site c.asked-asked.result c.asked-asked.ensures
-    (ne_eqb _ _ (λ e. c.if-number-eq0.false (c.number.ensures ∙ e)))
+pub returns-in-Err : goal.returns-in-Err
+returns-in-Err c =
+    let m = c.args.memory.now in
+    let p = rw c.image_of.ensures at c.in-Err.ensures in
+    let kept = tried_not m (λ k. search rules) c.requires.0 c.args.site c.in-Err.answer p in
+    record { value = refused_answer (rules_held m) (state_held m) c.args.site c.in-Err.answer p; memory_after = kept; starts_kept = c.requires.1 }

@@ -8,7 +8,6 @@ use lib.Bits.{bit_or}
 use lib.Dec.{T, eqb}
 use lib.ListN.{length, get_or}
 use Rattle.words.specs.Lists.{before, all_of}
-use Rattle.words.proofs.First.{first_stops}
 use Rattle.words.proofs.Tables.{table_length, table_at}
 use Rattle.words.proofs.Truth.{so}
 use Rattle.net.specs.Records.{action_width, no_action, read_action}
@@ -16,11 +15,13 @@ use Rattle.net.specs.Net.{program_limit}
 use Rattle.net.specs.Image.{actions_in}
 use Rattle.net.specs.declared.Action.{Action}
 use Rattle.rulebook.specs.Parts.{owners_in, owner_ok, room_ok}
+use Rattle.rulebook.proofs.Chains.{both}
 use Rattle.rulebook.proofs.Owners.{owners_of}
 use Rattle.format.specs.Format.{action_ok}
 use Rattle.format.specs.Steps.{set_of, operands_good, form_rules}
 use Rattle.format.proofs.Binding.{fields-ranged, fields-set}
 use Rattle.format.proofs.Earlier.{Earlier, owners, action_good, rules_with, in_order, bound-now, earlier_more, earlier_none}
+use Rattle.format.proofs.Searches.{stopped, ended}
 use Rattle.format.proofs.actions.first_bad_action.Goals as goal
 
 module _ (s : List ℕ) (sites k last bound : ℕ) (e : Earlier sites (actions_in s) k last bound) (h : k < length s / action_width) where
@@ -54,43 +55,36 @@ module _ (s : List ℕ) (sites k last bound : ℕ) (e : Earlier sites (actions_i
       rw i (earlier_more sites (actions_in s) k last bound e inside ok (g ∙ rw (fields-set x (good ok p), q, i)))
 
 pub loop-k-init : goal.loop-k-init
-loop-k-init c = record { within = omega arith; earlier = earlier_none _ _ }
+loop-k-init c = earlier_none _ _
 
-pub action_ok-requires : goal.action_ok-requires
-action_ok-requires c = (omega arith, ordered c.args.actions.now c.args.sites c.loop-k.k c.loop-k.last c.loop-k.bound c.loop-k.invariant.earlier (omega arith))
+pub place_ok-requires : goal.place_ok-requires
+place_ok-requires c = (omega arith, omega arith, ordered c.args.actions.now c.args.sites c.loop-k.k c.loop-k.last c.loop-k.bound c.loop-k.invariant (omega arith))
 
-pub returns-then-not-action_ok : goal.returns-then-not-action_ok
-returns-then-not-action_ok c =
+pub returns-then-not-good : goal.returns-then-not-good
+returns-then-not-good c =
     let s = c.args.actions.now in
     let l = c.loop-k in
-    let n = table_length read_action action_width s in
-    let e = tested s c.args.sites l.k l.last l.bound l.invariant.earlier (omega arith) c.action_at-x.ensures c.bound_for-earlier.ensures c.action_ok.ensures in
-    (sym (first_stops (action_ok c.args.sites (actions_in s)) l.k (length (actions_in s)) l.invariant.earlier.good (so e c.if-not-action_ok.true) (omega arith)), omega arith)
+    let e = tested s c.args.sites l.k l.last l.bound l.invariant (omega arith) c.nth-x.ensures c.bound_for-earlier.ensures (both c.place_ok.ensures c.form_ok.ensures) in
+    stopped read_action action_width s (action_ok c.args.sites (actions_in s)) l.k _ c.count-k-end.ensures l.invariant.good (so e c.if-not-good.true) (omega arith)
 
 -- action k is good where the loop goes on
 pub bound_too-bound-requires : goal.bound_too-bound-requires
 bound_too-bound-requires c =
     let s = c.args.actions.now in
     let l = c.loop-k in
-    let e = tested s c.args.sites l.k l.last l.bound l.invariant.earlier (omega arith) c.action_at-x.ensures c.bound_for-earlier.ensures c.action_ok.ensures in
-    let x = c.action_at-x in
-    fields-ranged x.result (good s c.args.sites l.k l.last l.bound l.invariant.earlier (omega arith) (so e c.if-not-action_ok.false) x.ensures) 2 (omega arith) (omega arith)
+    let e = tested s c.args.sites l.k l.last l.bound l.invariant (omega arith) c.nth-x.ensures c.bound_for-earlier.ensures (both c.place_ok.ensures c.form_ok.ensures) in
+    let x = c.nth-x in
+    fields-ranged x.result (good s c.args.sites l.k l.last l.bound l.invariant (omega arith) (so e c.if-not-good.false) x.ensures) 2 (omega arith) (omega arith)
 
 pub loop-k-preserved : goal.loop-k-preserved
 loop-k-preserved c =
     let s = c.args.actions.now in
     let l = c.loop-k in
-    let e = tested s c.args.sites l.k l.last l.bound l.invariant.earlier (omega arith) c.action_at-x.ensures c.bound_for-earlier.ensures c.action_ok.ensures in
-    record {
-      within = omega arith;
-      earlier = next s c.args.sites l.k l.last l.bound l.invariant.earlier (omega arith)
-          (so e c.if-not-action_ok.false) c.action_at-x.ensures c.bound_for-earlier.ensures c.bound_too-bound.ensures;
-    }
+    let e = tested s c.args.sites l.k l.last l.bound l.invariant (omega arith) c.nth-x.ensures c.bound_for-earlier.ensures (both c.place_ok.ensures c.form_ok.ensures) in
+    next s c.args.sites l.k l.last l.bound l.invariant (omega arith)
+    (so e c.if-not-good.false) c.nth-x.ensures c.bound_for-earlier.ensures c.bound_too-bound.ensures
 
 pub returns : goal.returns
 returns c =
     let s = c.args.actions.now in
-    let n = table_length read_action action_width s in
-    let e : c.loop-k.k ≡ length (actions_in s) = omega arith in
-    let g = c.loop-k.invariant.earlier.good in
-    (cc, omega arith)
+    ended read_action action_width s (action_ok c.args.sites (actions_in s)) c.loop-k.k _ c.count-k-end.ensures c.loop-k.invariant.good (omega arith) (omega arith)

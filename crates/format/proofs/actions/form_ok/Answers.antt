@@ -14,20 +14,20 @@ use Rattle.format.proofs.actions.form_ok.Goals as goal
 pub parts_ok-requires : goal.parts_ok-requires
 parts_ok-requires c =
     let x = c.args.x in
-    let good = is_T _ (so c.operands_ok.ensures c.if-operands_ok.true) in (
-      operand_ranged 1 (omega arith) (omega arith) (tags_of false false false) x.target (is_T _ (so c.operand_ok.ensures c.if-operand_ok.true)),
+    let good = is_T _ (so c.fields_ok.ensures c.if-fields_ok.true) in (
+      operand_ranged 1 (omega arith) (omega arith) (tags_of false false false) x.target (is_T _ (so c.allow.ensures c.if-allow.true)),
       fields-ranged x good 1 (omega arith) (omega arith),
       fields-ranged x good 2 (omega arith) (omega arith),
     )
 
-pub returns-then-operands_ok : goal.returns-then-operands_ok
-returns-then-operands_ok c =
+pub returns-then-fields_ok : goal.returns-then-fields_ok
+returns-then-fields_ok c =
     let x = c.args.x in
-    let good = is_T _ (so c.operands_ok.ensures c.if-operands_ok.true) in
+    let good = is_T _ (so c.fields_ok.ensures c.if-fields_ok.true) in
     tried (form_rules c.args.bound x)
     (on {r = true} (sym (eq-eqb _ _ c.if-x-eq0.true)) refl
     (on c.capability_ok.ensures c.if-capability_ok.true
     (on c.count_ok.ensures c.if-count_ok.true
-    (on c.operand_ok.ensures c.if-operand_ok.true
-    (on c.operands_ok.ensures c.if-operands_ok.true
+    (on c.allow.ensures c.if-allow.true
+    (on c.fields_ok.ensures c.if-fields_ok.true
     (last (c.parts_ok.ensures ∙ fields_parts x good c.args.bound x.target)))))))

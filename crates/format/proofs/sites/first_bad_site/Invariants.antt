@@ -1,5 +1,5 @@
 -- Up to k every site is good, and `last` is the name before site k.
-use Rattle.std.proofs.Common.{◌≡◌, ◌-◌, ◌≤◌}
+use Rattle.std.proofs.Common.{◌≡◌}
 use Rattle.words.specs.Lists.{first_bad, before}
 use Rattle.net.specs.Net.{names}
 use Rattle.net.specs.Image.{sites_in}
@@ -8,10 +8,6 @@ use Rattle.format.proofs.sites.first_bad_site.Given as goal
 
 abbrev pub invariant-loop-k : goal.invariant-loop-k
 invariant-loop-k l = record {
-  within : l.k ≤ l.n;
   last : l.last ≡ before (names (sites_in l.sites)) l.k;
   good : first_bad (site_ok (sites_in l.sites)) l.k ≡ l.k;
 }
-
-abbrev pub decreases-loop-k : goal.decreases-loop-k
-decreases-loop-k l = l.n - l.k

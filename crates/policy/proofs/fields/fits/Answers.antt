@@ -1,41 +1,22 @@
--- `policy::fits` meets its contract: where the counts are the same, the fields and values that they take in are tried one by one. Assumes nothing.
-use Rattle.std.proofs.Common.{◌≡◌, ℕ, length, take, length-take, min, sym, ◌∙◌, arith}
-use Rattle.words.specs.Lists.{fit_all}
-use Rattle.words.proofs.Truth.{so}
-use Rattle.net.specs.Net.{fields_of, values_of}
-use Rattle.net.specs.Records.{no_operand}
-use Rattle.net.specs.declared.Action.{Action}
-use Rattle.net.specs.declared.Row.{Row}
+-- `policy::fits` meets its contract: as many fields as values, and each pair is tried. Assumes nothing.
+use Rattle.std.proofs.Common.{rules, ◌||◌, eqb, sym, ◌∙◌, tests}
+use borrow.Author.Tests.{ne_eqb}
+use Rattle.std.proofs.lemmas.Iterator.{YieldsList-from_slice, YieldsList-from_zip}
+use Rattle.std.proofs.lemmas.Iterator.Search.{all_from_yields_List}
+use Rattle.net.specs.Net.{is_binding, fields_of, values_of}
 use Rattle.policy.specs.Match.{fits}
-use Rattle.policy.proofs.Places.{fit_stops, fit_lengths, take_four}
-use Rattle.policy.proofs.fields.fits.Invariants.{fit}
+use Rattle.policy.proofs.Places.{zip_fits, fit_lengths}
 use Rattle.policy.proofs.fields.fits.Goals as goal
 
--- the fields and values that the counts take in
-whole : (x : Action) (r : Row) (n : ℕ) → length x.fields ≡ 4 → length r.fields ≡ 4 → n ≡ min x.count 4 → n ≡ min r.count 4
-    → fit_all fit (take n x.fields) (take n r.fields) ≡ fits (fields_of x) (values_of r)
+pub returns-then-fields-values : goal.returns-then-fields-values
 unfolding fits
-whole x r n f v e g = rw (take_four n x.count x.fields f e, take_four n r.count r.fields v g)
+returns-then-fields-values c =
+    let l = fields_of c.args.action in
+    let m = values_of c.args.row in
+    all_from_yields_List (λ p. is_binding p.0 || eqb p.0.value p.1) c.all.new.self _ _ c.all.ensures.ran
+    (YieldsList-from_zip (YieldsList-from_slice l cc) (YieldsList-from_slice m cc)) (λ x b q k. search (rules, tests))
+    ∙ zip_fits _ l m (cc)
 
-pub returns-then-up_to_four-n : goal.returns-then-up_to_four-n
+pub returns-else-fields-values : goal.returns-else-fields-values
 unfolding fits
-returns-then-up_to_four-n c =
-    let a = c.args in
-    let f : length a.action.fields ≡ 4 = omega arith in
-    let v : length a.row.fields ≡ 4 = omega arith in
-    sym (fit_lengths fit no_operand 0 (fields_of a.action) (values_of a.row) (λ e. omega (arith, length-take a.action.count a.action.fields, length-take a.row.count a.row.fields)))
-
-pub returns-then-not-field_fits : goal.returns-then-not-field_fits
-returns-then-not-field_fits c =
-    let a = c.args in
-    let f : length a.action.fields ≡ 4 = omega arith in
-    let v : length a.row.fields ≡ 4 = omega arith in
-    sym (fit_stops fit no_operand 0 c.loop-i.i c.up_to_four-n.result a.action.fields a.row.fields (omega arith) (omega arith) (omega arith) (so c.field_fits.ensures c.if-not-field_fits.true))
-    ∙ whole a.action a.row c.up_to_four-n.result f v (omega arith) (omega arith)
-
-pub returns : goal.returns
-returns c =
-    let a = c.args in
-    let f : length a.action.fields ≡ 4 = omega arith in
-    let v : length a.row.fields ≡ 4 = omega arith in
-    sym c.loop-i.invariant.fitting ∙ whole a.action a.row c.loop-i.i f v (omega arith) (omega arith)
+returns-else-fields-values c = ne_eqb _ _ c.if-fields-values.false ∙ sym (fit_lengths _ (fields_of c.args.action) (values_of c.args.row) (λ e. c.if-fields-values.false (cc)))

@@ -1,39 +1,26 @@
--- `policy::house::all_grant` meets its contract: the aspects are tried one by one, and the first that does not grant decides. Assumes nothing.
-use Rattle.std.proofs.Common.{◌+◌, ◌/◌, ◌<◌, length, map, take, drop, sym, arith, add-one}
-use Rattle.words.proofs.Truth.{so}
-use Rattle.belnap.proofs.Laws.{grants_gather}
+-- `policy::house::all_grant` meets its contract: the aspects of these numbers are tried one by one, and the first that does not grant decides. Assumes nothing.
+use Rattle.std.proofs.Common.{rules, ◌*◌, ◌-◌, take, drop, tests, arith, ap, sym, ◌∙◌, refl}
+use Rattle.std.proofs.lemmas.Iterator.{YieldsList-from_range}
+use Rattle.std.proofs.lemmas.Iterator.Search.{all_from_yields_List}
+use Rattle.belnap.specs.Belnap.{grants}
+use Rattle.words.proofs.Tables.{table_length, table_at}
 use Rattle.net.specs.Records.{aspect_width, no_aspect, read_aspect}
-use Rattle.net.specs.Image.{aspects_in}
-use Rattle.policy.specs.Asked.{nodes_of, sites_of, rows_of}
-use Rattle.policy.specs.House.{gather_all}
-use Rattle.policy.proofs.Owned.{record_there, record_is}
-use Rattle.policy.proofs.Mandatory.{gather_more, denied_by}
-use Rattle.policy.proofs.house.all_grant.Invariants.{given}
+use Rattle.net.specs.declared.Aspect.{Aspect}
+use Rattle.net.specs.Image.{nodes_in, sites_in, rows_in, aspects_in}
+use Rattle.policy.specs.House.{gives}
+use Rattle.policy.proofs.Mandatory.{each_grants}
+use Rattle.policy.proofs.Places.{range_all}
 use Rattle.policy.proofs.house.all_grant.Goals as goal
 
-pub returns-then-not-grants : goal.returns-then-not-grants
-returns-then-not-grants c =
-    let a = c.args in
-    let i = c.loop-i.i in
-    let h : a.first + i < length a.aspects.now / aspect_width = omega arith in
-    sym (denied_by (given (nodes_of a.tables.now) (sites_of a.tables.now) (rows_of a.tables.now) a.source a.target a.action) (drop a.first (aspects_in a.aspects.now)) no_aspect i a.count
-    (omega arith) (record_there read_aspect aspect_width a.aspects.now no_aspect a.first i h)
-    (rw (record_is read_aspect aspect_width a.aspects.now no_aspect a.first i h, ← c.gives-value.ensures.0) (so c.grants.ensures c.if-not-grants.true)))
-
-pub loop-i-preserved : goal.loop-i-preserved
-loop-i-preserved c =
-    let a = c.args in
-    let i = c.loop-i.i in
-    let h : a.first + i < length a.aspects.now / aspect_width = omega arith in
-    let g = given (nodes_of a.tables.now) (sites_of a.tables.now) (rows_of a.tables.now) a.source a.target a.action in record {
-      within = omega arith;
-      granted = rw (
-        add-one i,
-        gather_more g i (drop a.first (aspects_in a.aspects.now)) no_aspect (record_there read_aspect aspect_width a.aspects.now no_aspect a.first i h),
-        record_is read_aspect aspect_width a.aspects.now no_aspect a.first i h,
-        ← c.gives-value.ensures.0,
-        grants_gather (gather_all (map g (take i (drop a.first (aspects_in a.aspects.now))))) c.gives-value.result,
-        c.loop-i.invariant.granted,
-      )
-          (so c.grants.ensures c.if-not-grants.false);
-    }
+pub returns : goal.returns
+returns c =
+    let t = c.args.case.now.tables in
+    let n = c.args.numbers in
+    let s = c.args.aspects.now in
+    let g = gives (nodes_in t.nodes.now) (sites_in t.sites.now) (rows_in t.rows.now) c.args.case.now.act in
+    let l = table_length read_aspect aspect_width s in
+    all_from_yields_List (λ k. grants (g (read_aspect s (32 * k)))) c.all.new.self _ _ c.all.ensures.ran
+    (YieldsList-from_range n.start n.end (n.end - n.start) refl refl) (λ x b q k. search (rules, tests))
+    ∙ range_all (λ x. grants (g x)) no_aspect (aspects_in s) _
+    (λ i h. ap (λ (x : Aspect). grants (g x)) (sym (table_at read_aspect aspect_width s i no_aspect (omega arith)))) n.start (n.end - n.start) (λ i h. omega arith)
+    ∙ sym (each_grants g (take (n.end - n.start) (drop n.start (aspects_in s))))

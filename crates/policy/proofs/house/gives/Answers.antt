@@ -1,49 +1,44 @@
--- `policy::house::gives` meets its contract: trapped, and its condition true, or nothing. Assumes nothing.
-use Rattle.std.proofs.Common.{◌≡◌, ℕ, List, refl, sym, ap, ◌∙◌, arith}
-use Rattle.std.specs.Borrow.{Bor}
-use Rattle.words.proofs.Truth.{so}
+-- `policy::house::gives` meets its contract: the evaluators are asked with the terms of the action, what the cut took, and the whole table. Assumes nothing.
+use Rattle.std.proofs.Common.{◌≡◌, sym, ap, ◌∙◌, arith}
 use Rattle.net.specs.Records.{read_aspect}
 use Rattle.net.specs.Image.{sites_in, nodes_in, rows_in}
-use Rattle.net.specs.declared.Aspect.{Aspect}
-use Rattle.policy.specs.Asked.{nodes_of, sites_of, rows_of}
-use Rattle.policy.specs.House.{Act, act_of, ask_of, yes, advice, value_at}
+use Rattle.policy.specs.House.{ask_of, yes, advice, value_at}
 use Rattle.policy.proofs.Bodies.{condition_in, recommendation_in}
 use Rattle.policy.proofs.Given.{value_asked, gives_untrapped, gives_unless, gives_trapped}
 use Rattle.policy.proofs.house.gives.Goals.{After-holds}
 use Rattle.policy.proofs.house.gives.Goals as goal
 
--- the value of a node, asked for the aspect
-abbrev value : List (Bor (List ℕ)) → Act → Aspect → ℕ → ℕ
-value tables act x = value_at (ask_of (sites_in (sites_of tables)) (rows_in (rows_of tables)) act x) (nodes_in (nodes_of tables))
-
--- the evaluators were asked for the aspect's own condition and recommendation
+-- the condition that was looked at is the aspect's own
 condition : (c : After-holds)
-    → (let a = c.args in
-    let x = read_aspect a.aspects.now a.at in
-    c.holds.result ≡ yes (value a.tables.now (act_of a.source a.target a.action) x x.condition))
+    → (let t = c.args.case.now.tables in
+    let x = read_aspect c.args.aspects.now c.args.at in
+    c.holds.result ≡ yes (value_at (ask_of (sites_in t.sites.now) (rows_in t.rows.now) c.args.case.now.act x) (nodes_in t.nodes.now) x.condition))
 condition c =
     let a = c.args in
+    let t = a.case.now.tables in
     let x = read_aspect a.aspects.now a.at in
-    let act = act_of a.source a.target a.action in
     c.holds.ensures
-    ∙ ap yes (value_asked (sites_in (sites_of a.tables.now)) (rows_in (rows_of a.tables.now)) act x (nodes_of a.tables.now) c.size_at.result c.requires.1.with_terms c.taken-vars.ensures refl
-    ∙ ap (value a.tables.now act x) (c.size_at.ensures.0 ∙ sym (condition_in a.aspects.now a.at)))
+    ∙ ap yes (value_asked (sites_in t.sites.now) (rows_in t.rows.now) a.case.now.act x t.nodes.now c.size_at.result
+    a.case.now.acting.with_terms c.taken-vars.ensures c.count-top.ensures
+    ∙ ap (value_at (ask_of (sites_in t.sites.now) (rows_in t.rows.now) a.case.now.act x) (nodes_in t.nodes.now)) (c.size_at.ensures.0 ∙ sym (condition_in a.aspects.now a.at)))
 
 pub returns-then-not-traps : goal.returns-then-not-traps
-returns-then-not-traps c = (sym (gives_untrapped _ _ _ _ _ (so c.traps.ensures c.if-not-traps.true)), omega arith)
+returns-then-not-traps c = (sym (gives_untrapped _ _ _ _ _ (sym c.traps.ensures ∙ c.if-not-traps.true)), omega arith)
 
-pub returns-then-not-holds : goal.returns-then-not-holds
-returns-then-not-holds c =
-    (sym (gives_unless _ _ _ _ _ (so c.traps.ensures c.if-not-traps.false) (so (condition (goal.at.returns-then-not-holds c).After-holds) c.if-not-holds.true)), omega arith)
+pub returns-else-holds : goal.returns-else-holds
+returns-else-holds c =
+    (sym (gives_unless _ _ _ _ _ (sym c.traps.ensures ∙ c.if-not-traps.false) (sym (condition (goal.at.returns-else-holds c).After-holds) ∙ c.if-holds.false)), omega arith)
 
-pub returns : goal.returns
-returns c =
+pub returns-then-holds : goal.returns-then-holds
+returns-then-holds c =
     let a = c.args in
+    let t = a.case.now.tables in
     let x = read_aspect a.aspects.now a.at in
-    let act = act_of a.source a.target a.action in (
+    let k = c.size_at-then-holds.ensures.0 ∙ sym (recommendation_in a.aspects.now a.at) in (
       c.advises.ensures
-          ∙ ap advice (value_asked (sites_in (sites_of a.tables.now)) (rows_in (rows_of a.tables.now)) act x (nodes_of a.tables.now) c.size_at-2.result c.requires.1.with_terms c.taken-vars.ensures refl
-          ∙ ap (value a.tables.now act x) (c.size_at-2.ensures.0 ∙ sym (recommendation_in a.aspects.now a.at)))
-          ∙ sym (gives_trapped _ _ _ _ _ (so c.traps.ensures c.if-not-traps.false) (so (condition (goal.at.returns c).After-holds) c.if-not-holds.false)),
+          ∙ ap advice (value_asked (sites_in t.sites.now) (rows_in t.rows.now) a.case.now.act x t.nodes.now c.size_at-then-holds.result
+          a.case.now.acting.with_terms c.taken-vars.ensures c.count-top.ensures
+          ∙ ap (value_at (ask_of (sites_in t.sites.now) (rows_in t.rows.now) a.case.now.act x) (nodes_in t.nodes.now)) k)
+          ∙ sym (gives_trapped _ _ _ _ _ (sym c.traps.ensures ∙ c.if-not-traps.false) (sym (condition (goal.at.returns-then-holds c).After-holds) ∙ c.if-holds.true)),
       omega (arith, c.advises.ensures),
     )

@@ -1,4 +1,5 @@
 -- `policy::house::policy_grants` meets its contract: the site's aspects are the stretch that `group` finds. Assumes nothing.
+use Rattle.std.proofs.Common.{◌-◌}
 use Rattle.net.specs.Records.{aspect_width, no_aspect, read_aspect}
 use Rattle.policy.specs.House.{policy}
 use Rattle.policy.proofs.Bodies.{aspect_owner}
@@ -8,5 +9,6 @@ use Rattle.policy.proofs.house.policy_grants.Goals as goal
 pub returns : goal.returns
 unfolding policy
 returns c =
-    rw (owned read_aspect (λ x. x.owner) no_aspect aspect_owner aspect_width c.args.aspects.now c.requires.1 c.args.site c.group-own.result.first c.group-own.result.count c.group-own.ensures)
+    let own = c.group.result in
+    rw (owned read_aspect (λ x. x.owner) no_aspect aspect_owner aspect_width c.args.aspects.now c.requires.1 c.args.site own.start (own.end - own.start) c.group.ensures)
     c.all_grant.ensures

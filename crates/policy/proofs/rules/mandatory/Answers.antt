@@ -1,24 +1,21 @@
--- `policy::mandatory` meets its contract: the first rule that gives 2 decides. Assumes nothing.
-use Rattle.std.proofs.Common.{ap, map, sym, ◌∙◌, arith, add-one}
-use lib.Seq.{take_all}
-use Rattle.policy.specs.House.{rule_gives, mandatory_rules, demands, gather_all, mandatory}
-use Rattle.policy.proofs.Mandatory.{gather_more, mandatory_denies}
+-- `policy::mandatory` meets its contract: the rules are asked in order, and one that says no decides. Assumes nothing.
+use Rattle.std.proofs.Common.{rules, ◌≡◌, cond, eqb, arith, tests}
+use Rattle.std.proofs.lemmas.Iterator.{YieldsList-from_slice}
+use Rattle.std.proofs.lemmas.Iterator.Search.{all_from_yields_List}
+use Rattle.policy.specs.House.{rule_gives, mandatory_rules, mandatory}
+use Rattle.policy.proofs.Mandatory.{mandatory_is}
+use Rattle.policy.proofs.rules.mandatory.Goals.{After-all-undecided}
 use Rattle.policy.proofs.rules.mandatory.Goals as goal
 
-pub returns-then-rule_gives-ne0 : goal.returns-then-rule_gives-ne0
-returns-then-rule_gives-ne0 c =
-    (sym (mandatory_denies c.args.capability c.args.terms.now c.loop-i.i (omega arith) (λ e. c.if-rule_gives-ne0.true (c.rule_gives.ensures ∙ e))), omega arith)
-
-pub loop-i-preserved : goal.loop-i-preserved
-loop-i-preserved c =
+-- what it comes to, by whether each rule left it undecided
+settled : (c : After-all-undecided) → cond c.all-undecided.result 0 2 ≡ mandatory c.args.capability c.args.terms.now
+settled c =
     let a = c.args in
-    let i = c.loop-i.i in record {
-      within = omega arith;
-      nothing = rw (add-one i, gather_more (rule_gives a.capability a.terms.now) i mandatory_rules (demands 0 0 0) (omega arith), c.loop-i.invariant.nothing, ← c.rule_gives.ensures, c.if-rule_gives-ne0.false);
-    }
+    rw (all_from_yields_List (λ x. eqb (rule_gives a.capability a.terms.now x) 0) _ _ c.all-undecided.result c.all-undecided.ensures.ran
+    (YieldsList-from_slice mandatory_rules cc) (λ x b q k. search (rules, tests))) (mandatory_is a.capability a.terms.now)
 
-pub returns : goal.returns
-unfolding mandatory
-returns c =
-    let a = c.args in
-    (sym (ap (λ r. gather_all (map (rule_gives a.capability a.terms.now) r)) (sym (take_all c.loop-i.i mandatory_rules (omega arith))) ∙ c.loop-i.invariant.nothing), omega arith)
+pub returns-then-undecided : goal.returns-then-undecided
+returns-then-undecided c = (rw c.if-undecided.true at (settled (goal.at.returns-then-undecided c).After-all-undecided), omega arith)
+
+pub returns-else-undecided : goal.returns-else-undecided
+returns-else-undecided c = (rw c.if-undecided.false at (settled (goal.at.returns-else-undecided c).After-all-undecided), omega arith)

@@ -1,15 +1,8 @@
--- The variables are those after the first i fields and values.
-use Rattle.std.proofs.Common.{◌-◌, ◌≡◌, ◌≤◌, length, take}
-use Rattle.policy.specs.Match.{through, binds}
+-- What is left of the fields and values makes of the variables so far what all of them make of the first variables.
+use Rattle.std.proofs.Common.{◌≡◌}
+use Rattle.net.specs.Net.{fields_of, values_of}
+use Rattle.policy.specs.Match.{through, binds, bound}
 use Rattle.policy.proofs.vars.bound.Given as goal
 
-abbrev pub invariant-loop-i : goal.invariant-loop-i
-invariant-loop-i l = record {
-  within : l.i ≤ l.n;
-  few : l.n ≤ 4;
-  eight : length l.v ≡ 8;
-  after : l.v ≡ through binds (take l.i l.fields) (take l.i l.values) l.initial.v;
-}
-
-abbrev pub decreases-loop-i : goal.decreases-loop-i
-decreases-loop-i l = l.n - l.i
+abbrev pub invariant-loop-x : goal.invariant-loop-x
+invariant-loop-x l = through binds l.x-iterator.a.rest.now l.x-iterator.b.rest.now l.bound ≡ bound (fields_of l.fn.action) (values_of l.fn.row) l.fn.vars

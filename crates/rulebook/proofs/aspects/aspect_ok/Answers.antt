@@ -6,21 +6,21 @@ use Rattle.rulebook.proofs.aspects.aspect_ok.Goals as goal
 
 pub returns-then-cut_ok : goal.returns-then-cut_ok
 returns-then-cut_ok c =
-    aspect_tried c.args.sites (nodes_in c.args.nodes.now) c.args.aspects.now c.args.k c.aspect_at-x.result c.requires c.aspect_at-x.ensures
+    aspect_tried c.args.sites (nodes_in c.args.nodes.now) c.args.aspects.now c.args.k c.nth-x.result c.requires c.nth-x.ensures
     (on c.owner_ok.ensures c.if-owner_ok.true
     (on c.head_ok.ensures c.if-head_ok.true (on c.cut_ok.ensures c.if-cut_ok.true (last c.names_ok.ensures))))
 
 pub returns-else-cut_ok : goal.returns-else-cut_ok
 returns-else-cut_ok c =
-    aspect_tried c.args.sites (nodes_in c.args.nodes.now) c.args.aspects.now c.args.k c.aspect_at-x.result c.requires c.aspect_at-x.ensures
+    aspect_tried c.args.sites (nodes_in c.args.nodes.now) c.args.aspects.now c.args.k c.nth-x.result c.requires c.nth-x.ensures
     (on c.owner_ok.ensures c.if-owner_ok.true (on c.head_ok.ensures c.if-head_ok.true (stop c.cut_ok.ensures c.if-cut_ok.false)))
 
 pub returns-else-head_ok : goal.returns-else-head_ok
 returns-else-head_ok c =
-    aspect_tried c.args.sites (nodes_in c.args.nodes.now) c.args.aspects.now c.args.k c.aspect_at-x.result c.requires c.aspect_at-x.ensures
+    aspect_tried c.args.sites (nodes_in c.args.nodes.now) c.args.aspects.now c.args.k c.nth-x.result c.requires c.nth-x.ensures
     (on c.owner_ok.ensures c.if-owner_ok.true (stop c.head_ok.ensures c.if-head_ok.false))
 
 pub returns-else-owner_ok : goal.returns-else-owner_ok
 returns-else-owner_ok c =
-    aspect_tried c.args.sites (nodes_in c.args.nodes.now) c.args.aspects.now c.args.k c.aspect_at-x.result c.requires c.aspect_at-x.ensures
+    aspect_tried c.args.sites (nodes_in c.args.nodes.now) c.args.aspects.now c.args.k c.nth-x.result c.requires c.nth-x.ensures
     (stop c.owner_ok.ensures c.if-owner_ok.false)

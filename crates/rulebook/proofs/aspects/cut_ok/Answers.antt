@@ -5,10 +5,10 @@ use Rattle.rulebook.specs.Steps.{cut_ok}
 use Rattle.rulebook.proofs.Cuts.{cut_once}
 use Rattle.rulebook.proofs.aspects.cut_ok.Goals as goal
 
-pub returns-then-operands_ok : goal.returns-then-operands_ok
+pub returns-then-allow_first : goal.returns-then-allow_first
 unfolding cut_ok
-returns-then-operands_ok c =
-    let source = so c.operand_ok.ensures c.if-operand_ok.true in
-    let target = so c.operand_ok-then-operand_ok.ensures c.if-operand_ok-2.true in
-    let fields = so c.operands_ok.ensures c.if-operands_ok.true in
+returns-then-allow_first c =
+    let source = so c.allow.ensures c.if-allow.true in
+    let target = so c.allow-then-allow.ensures c.if-allow-2.true in
+    let fields = so c.allow_first.ensures c.if-allow_first.true in
     simp (source, target, fields) (c.takes_once.ensures ∙ cut_once c.args.x (0 ∷ 1 ∷ 3 ∷ []) (0 ∷ 1 ∷ 3 ∷ 4 ∷ []) source target fields)

@@ -1,5 +1,5 @@
 -- `rulebook::first_bad_node` meets its contract. The invariant: every node below k is good, and the row has their depths. Assumes nothing.
-use Rattle.std.proofs.Common.{◌≡◌, ◌-◌, ◌≤◌, ◌++◌, length, drop}
+use Rattle.std.proofs.Common.{◌≡◌, take, length}
 use Rattle.words.specs.Lists.{first_bad}
 use Rattle.net.specs.Net.{names}
 use Rattle.net.specs.Image.{sites_in, nodes_in}
@@ -8,12 +8,7 @@ use Rattle.rulebook.proofs.nodes.first_bad_node.Given as goal
 
 abbrev pub invariant-loop-k : goal.invariant-loop-k
 invariant-loop-k l = record {
-  within : l.k ≤ l.n;
   good : first_bad (node_ok (names (sites_in l.sites)) (nodes_in l.nodes)) l.k ≡ l.k;
-  long_first : length l.initial.row ≡ 1024;
   long : length l.row ≡ 1024;
-  row_is : l.row ≡ depths (nodes_in l.nodes) l.k ++ drop l.k l.initial.row;
+  row_is : take l.k l.row ≡ depths (nodes_in l.nodes) l.k;
 }
-
-abbrev pub decreases-loop-k : goal.decreases-loop-k
-decreases-loop-k l = l.n - l.k
