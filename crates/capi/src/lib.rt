@@ -1,5 +1,6 @@
 // The public calls, exported to C and Rust; include/boardmarten.h declares them. A slice passes as a pointer and a length. Each contract gives
-// the number returned and every lent byte at exit, as those of the calls behind it do.
+// the number returned and every lent byte at exit, as those of the calls behind it do. The interface fixes the numbers: 0 stands for the empty part,
+// and u64 for sizes, between which and usize there is no `From`, only `as`.
 #![tactic(auto)]
 
 ghost use Rattle.std.specs.Prelude.{◌≡◌, ◌≤◌, length};
@@ -27,8 +28,7 @@ fn packed_saved(v: Result<usize, SaveError>) -> u64
 {
     match v {
         Ok(n) => 256 * (n as u64),
-        Err(SaveError::NoNet) => 6,
-        Err(SaveError::Room) => 20,
+        Err(error) => u64::from(u8::from(error)),
     }
 }
 
@@ -38,8 +38,7 @@ fn ran_number(v: Result<(), RunError>) -> u32
 {
     match v {
         Ok(()) => 0,
-        Err(RunError::Long) => 7,
-        Err(RunError::NoNet) => 6,
+        Err(error) => u32::from(u8::from(error)),
     }
 }
 

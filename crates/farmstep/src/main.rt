@@ -1,4 +1,6 @@
 // Reads an image length, an image and steps from standard input until its end, runs the steps, and prints what came of it.
+//
+// Input and output are buffers of a fixed size, of which a front is used: the programs have no heap.
 #![tactic(auto)]
 
 use std::io::Result;

@@ -7,7 +7,7 @@ ghost use Rattle.format.specs.Format.{action_ok};
 ghost use Rattle.format.specs.Steps.{operands_good, form_rules};
 
 use crate::owners::place_ok;
-use crate::variables::{bound_too, parts_ok};
+use crate::variables::GoodFields;
 use net::{Action, Capability, count, nth};
 use rulebook::{Tags, capability_ok, count_ok};
 
@@ -37,11 +37,12 @@ fn fields_ok(x: Action) -> bool
 fn form_ok(bound: u8, x: Action) -> bool
     ensures { result ≡ all_of (form_rules bound x) }
 {
+    let fields = x.fields;
     x.zero == 0
         && (capability_ok(x.capability)
             && (count_ok(x.count)
                 && (Tags::PLAIN.allow(x.target)
-                    && (fields_ok(x) && parts_ok(bound, x.target, x.fields)))))
+                    && (fields_ok(x) && GoodFields { fields }.ok(bound, x.target)))))
 }
 
 // The first bad action of a net of so many sites.
@@ -57,7 +58,8 @@ pub fn first_bad_action(actions: &[u8], sites: usize) -> Option<usize>
         if !good {
             return Some(k);
         }
-        bound = bound_too(earlier, x.fields);
+        let fields = x.fields;
+        bound = GoodFields { fields }.bound_too(earlier);
         last = x.owner;
     }
     None

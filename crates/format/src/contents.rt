@@ -113,83 +113,84 @@ impl Kind {
     }
 }
 
-// How many records of a kind the contents say.
-pub fn records(s: &[u8], kind: Kind) -> usize
-    requires { 44 ≤ length s.now }
-    ensures { (result ≡ count_in s.now (kind_number kind)) × (result < 65536) }
-{
-    size_at(s, 8 * usize::from(kind) - 2)
+// Bytes that begin with a header.
+#[derive(Clone, Copy)]
+pub struct Header<'a> {
+    pub bytes: &'a [u8],
+    ghost long: { 44 ≤ length bytes.now },
 }
 
-// Where the contents say that the body of a kind starts.
-pub fn offset(s: &[u8], kind: Kind) -> usize
-    requires { 44 ≤ length s.now }
-    ensures { (result ≡ offset_in s.now (kind_number kind)) × (result < 2 ^ 32) }
-{
-    long_at(s, 8 * usize::from(kind))
-}
-
-// How long the body of a kind is.
-fn size(s: &[u8], kind: Kind) -> usize
-    requires { 44 ≤ length s.now }
-    ensures { (result ≡ length_in s.now (kind_number kind)) × (result < 2 ^ 32) }
-{
-    kind.width() * records(s, kind)
-}
-
-// Where the body of a kind ends.
-fn end_of(s: &[u8], kind: Kind) -> usize
-    requires { 44 ≤ length s.now }
-    ensures { (result ≡ start_in s.now (kind_number kind + 1)) × (result < 2 ^ 33) }
-{
-    offset(s, kind) + size(s, kind)
-}
-
-// Where the body of a kind has to start: the first after the header, each other where the one before it ends.
-fn start(s: &[u8], kind: Kind) -> usize
-    requires { 44 ≤ length s.now }
-    ensures { (result ≡ start_in s.now (kind_number kind)) × (result < 2 ^ 33) }
-{
-    match kind {
-        Kind::Sites => HEADER,
-        Kind::Nodes => end_of(s, Kind::Sites),
-        Kind::Aspects => end_of(s, Kind::Nodes),
-        Kind::Actions => end_of(s, Kind::Aspects),
-        Kind::Rows => end_of(s, Kind::Actions),
+impl Header<'_> {
+    // How many records of a kind the contents say.
+    pub fn records(self, kind: Kind) -> usize
+        ensures { (result ≡ count_in self.entry.bytes.now (kind_number kind)) × (result < 65536) }
+    {
+        size_at(self.bytes, 8 * usize::from(kind) - 2)
     }
-}
 
-// Where the last body ends.
-pub fn end(s: &[u8]) -> usize
-    requires { 44 ≤ length s.now }
-    ensures { (result ≡ end_in s.now) × (result < 2 ^ 33) }
-{
-    end_of(s, Kind::Rows)
-}
+    // Where the contents say that the body of a kind starts.
+    pub fn offset(self, kind: Kind) -> usize
+        ensures { (result ≡ offset_in self.entry.bytes.now (kind_number kind)) × (result < 2 ^ 32) }
+    {
+        long_at(self.bytes, 8 * usize::from(kind))
+    }
 
-// Whether the entry of a kind is right.
-#[tactic(auto, unfolding(net::specs::Image::entry_ok))]
-fn entry_ok(s: &[u8], kind: Kind) -> bool
-    requires { 44 ≤ length s.now }
-    ensures { result ≡ entry_ok s.now (kind_number kind) }
-{
-    let n = records(s, kind);
-    (size_at(s, 8 * usize::from(kind) - 4) == usize::from(kind))
-        & ((kind.least() <= n) & ((n <= kind.most()) & (offset(s, kind) == start(s, kind))))
-}
+    // How long the body of a kind is.
+    fn size(self, kind: Kind) -> usize
+        ensures { (result ≡ length_in self.entry.bytes.now (kind_number kind)) × (result < 2 ^ 32) }
+    {
+        kind.width() * self.records(kind)
+    }
 
-// Whether the contents are in order: five entries that are right, and the image ends with the last body.
-#[tactic(auto, unfolding(net::specs::Image::contents_ok))]
-fn contents_ok(s: &[u8]) -> bool
-    requires { 44 ≤ length s.now }
-    ensures { result ≡ contents_ok s.now }
-{
-    (size_at(s, 2) == 5)
-        & (entry_ok(s, Kind::Sites)
-            & (entry_ok(s, Kind::Nodes)
-                & (entry_ok(s, Kind::Aspects)
-                    & (entry_ok(s, Kind::Actions)
-                        & (entry_ok(s, Kind::Rows) & (end(s) == s.len()))))))
+    // Where the body of a kind ends.
+    fn end_of(self, kind: Kind) -> usize
+        ensures { (result ≡ start_in self.entry.bytes.now (kind_number kind + 1)) × (result < 2 ^ 33) }
+    {
+        self.offset(kind) + self.size(kind)
+    }
+
+    // Where the body of a kind has to start: the first after the header, each other where the one before it ends.
+    fn start(self, kind: Kind) -> usize
+        ensures { (result ≡ start_in self.entry.bytes.now (kind_number kind)) × (result < 2 ^ 33) }
+    {
+        match kind {
+            Kind::Sites => HEADER,
+            Kind::Nodes => self.end_of(Kind::Sites),
+            Kind::Aspects => self.end_of(Kind::Nodes),
+            Kind::Actions => self.end_of(Kind::Aspects),
+            Kind::Rows => self.end_of(Kind::Actions),
+        }
+    }
+
+    // Where the last body ends.
+    pub fn end(self) -> usize
+        ensures { (result ≡ end_in self.entry.bytes.now) × (result < 2 ^ 33) }
+    {
+        self.end_of(Kind::Rows)
+    }
+
+    // Whether the entry of a kind is right.
+    #[tactic(auto, unfolding(net::specs::Image::entry_ok))]
+    fn entry_ok(self, kind: Kind) -> bool
+        ensures { result ≡ entry_ok self.entry.bytes.now (kind_number kind) }
+    {
+        let n = self.records(kind);
+        (size_at(self.bytes, 8 * usize::from(kind) - 4) == usize::from(kind))
+            & ((kind.least() <= n) & ((n <= kind.most()) & (self.offset(kind) == self.start(kind))))
+    }
+
+    // Whether the contents are in order: five entries that are right, and the image ends with the last body.
+    #[tactic(auto, unfolding(net::specs::Image::contents_ok))]
+    fn contents_ok(self) -> bool
+        ensures { result ≡ contents_ok self.entry.bytes.now }
+    {
+        (size_at(self.bytes, 2) == 5)
+            & (self.entry_ok(Kind::Sites)
+                & (self.entry_ok(Kind::Nodes)
+                    & (self.entry_ok(Kind::Aspects)
+                        & (self.entry_ok(Kind::Actions)
+                            & (self.entry_ok(Kind::Rows) & (self.end() == self.bytes.len()))))))
+    }
 }
 
 // An image whose contents are in order, so that each body is where its entry says.
@@ -200,13 +201,14 @@ pub struct Image<'a> {
 }
 
 impl<'a> Image<'a> {
-    // These bytes as an image, if their contents are in order.
-    pub fn of(bytes: &'a [u8]) -> Option<Image<'a>>
-        requires { 44 ≤ length bytes.now }
-        ensures { MatchOption result (contents_ok bytes.now ≡ false) (λ image. (image.bytes ≡ bytes.entry) × (contents_ok bytes.now ≡ true)) }
+    // The image of a header whose contents are in order.
+    pub fn of(header: Header<'a>) -> Option<Image<'a>>
+        ensures { MatchOption result (contents_ok header.entry.bytes.now ≡ false) (λ image. (image.bytes ≡ header.entry.bytes) × (contents_ok header.entry.bytes.now ≡ true)) }
     {
-        if contents_ok(bytes) {
-            Some(Image { bytes })
+        if header.contents_ok() {
+            Some(Image {
+                bytes: header.bytes,
+            })
         } else {
             None
         }
@@ -218,8 +220,9 @@ impl<'a> Image<'a> {
         ensures result_value { result.now ≡ body_in self.entry.bytes.now (kind_number kind) }
         ensures ref_ptr_value { result.ref_ptr ≡ (self.entry.bytes.ref_ptr.0, offset_in self.entry.bytes.now (kind_number kind) + self.entry.bytes.ref_ptr.1) }
     {
-        let start = offset(self.bytes, kind);
-        let length = size(self.bytes, kind);
+        let header = Header { bytes: self.bytes };
+        let start = header.offset(kind);
+        let length = header.size(kind);
         &self.bytes[start..start + length]
     }
 }

@@ -19,9 +19,9 @@ ghost use Rattle.format.specs.declared.Refusal.{Refusal};
 
 use actions::first_bad_action;
 use contents::size_ok;
-pub use contents::{Image, Kind, end, offset, records};
+pub use contents::{Header, Image, Kind};
 use net::{Site, count};
-use rulebook::{first_bad_aspect, first_bad_node};
+use rulebook::{Places, first_bad_aspect, first_bad_node};
 use sites::first_bad_site;
 use states::Programs;
 pub use stores::STORE_LIMIT;
@@ -82,7 +82,8 @@ pub fn record(v: Verdict) -> u16
     }
 }
 
-// The verdict on a kind of record, of which the first bad one is found: its refusal carries the number.
+// The verdict on a kind of record, of which the first bad one is found: its refusal carries the number, which `as` cuts to a word. `small` says that
+// it fits one: a test in the place of `as` could not fail.
 fn refuse<F: FnOnce(u16) -> Refusal>(bad: Option<usize>, refusal: F) -> Verdict
     requires small { IfSome bad (λ k. k < 65536) }
     requires callable { F.IsAlwaysCallable refusal }
@@ -117,7 +118,7 @@ fn check_records(image: Image<'_>) -> Verdict
     let nodes = image.body(Kind::Nodes);
     let aspects = image.body(Kind::Aspects);
     refuse(first_bad_site(sites), Refusal::BadSite)?;
-    refuse(first_bad_node(nodes, sites), Refusal::BadNode)?;
+    refuse(first_bad_node(nodes, Places { sites }), Refusal::BadNode)?;
     refuse(
         first_bad_aspect(aspects, nodes, count::<Site>(sites)),
         Refusal::BadAspect,
@@ -136,7 +137,8 @@ pub fn check(image: &[u8]) -> Verdict
     if word(image, 0) != 1 {
         return Err(Refusal::Edition);
     }
-    check_records(Image::of(image).ok_or(Refusal::Contents)?)
+    let header = Header { bytes: image };
+    check_records(Image::of(header).ok_or(Refusal::Contents)?)
 }
 
 // An image that is accepted.

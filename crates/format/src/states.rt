@@ -8,7 +8,7 @@ ghost use Rattle.net.specs.Image.{sites_in, actions_in};
 ghost use Rattle.format.specs.Format.{placed, state_ok};
 ghost use Rattle.format.specs.Steps.{in_set, bound_by, operands_good};
 
-use crate::variables::bound_too;
+use crate::variables::GoodFields;
 use net::{Action, Record, Site, count, nth};
 use words::count_below;
 
@@ -37,7 +37,8 @@ impl Programs<'_> {
     {
         let mut bound = 0;
         for j in 0..n {
-            bound = bound_too(bound, nth::<Action>(self.actions, from + j).fields);
+            let fields = nth::<Action>(self.actions, from + j).fields;
+            bound = GoodFields { fields }.bound_too(bound);
         }
         bound
     }

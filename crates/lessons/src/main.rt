@@ -16,7 +16,7 @@ const LESSONS: [&[u8]; 8] = [
     b"08-full-store.in",
 ];
 
-// Steps through the input in a file.
+// Steps through the input in a file. Input and output are buffers of a fixed size, of which a front is used: the programs have no heap.
 fn lesson(rt: &(impl Files + Print), path: &[u8]) -> Result<()> {
     let mut input = io::large_buffer();
     let n = files::read(rt, path, &mut input)?;

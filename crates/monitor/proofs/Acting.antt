@@ -1,6 +1,7 @@
 -- What a put and a get leave: the writes, in the code's order, make the memory of the net after the step. Assumes nothing.
 use Rattle.std.specs.Prelude.{None, Some}
-use mathlib.Core.Path.{◌≡◌, refl, sym, ◌∙◌}
+use Rattle.std.specs.Option.{is_some}
+use mathlib.Core.Path.{◌≡◌, refl, sym, ap, ◌∙◌}
 use mathlib.Core.Bool.{Bool, true, false, cond}
 use mathlib.Core.List.{List}
 use Prim.Native.Nat.{ℕ, ◌+◌, ◌-◌, ◌*◌, ◌≤◌, ◌<◌}
@@ -40,6 +41,14 @@ place_there s act w p {k} f = pick (ltb (held act.target s.rows) store_limit) (s
     pick true e = let q : k ≡ place_for act.target s.rows = cc in rw q (place_within act.target s.rows)
     pick false e = no (cc)
 
+-- a row that is put has a place exactly if there is room for it
+pub place_room : (s : State) (act : Act) (w : Writes) → Reads s act.source act.target w → is_some w.place ≡ has_room s act
+place_room s act w p = ap is_some p.place ∙ pick (has_room s act)
+  where
+    pick : (b : Bool) → is_some (cond b (Some (place_for act.target s.rows)) None) ≡ b
+    pick true = refl
+    pick false = refl
+
 -- a site's record written leaves the length
 pub length_site : (m : List ℕ) (i : ℕ) (x : Site) → 44 + 32 * i + 32 ≤ length m → length (splice m (44 + 32 * i) (site_bytes x)) ≡ length m
 length_site m i x h = length-splice m (44 + 32 * i) (site_bytes x) (omega (arith, site_wide x))
@@ -69,7 +78,7 @@ module _ (m : List ℕ) (g : Bytes m) (act : Act) (r : Ready m act.source act.ta
     new_sites false e = rw (p.target, e, p.source)
 
     written : m₁ ≡ memory_of (with_sites l (net_of (image_in m)))
-    written = sites_written (net_of (image_in m)) (held_fits m g r.held) i t w.source w.target r.source r.target (held_memory m g r.held) sites
+    written = sites_written (net_of (image_in m)) (held_fits m g r.held) i t w.source w.target r.sited.source r.sited.target (held_memory m g r.held) sites
 
     -- by whether there is a place for the row
     dropped : (b : Bool) → has_room s act ≡ b → None ≡ cond b (Some (place_for t s.rows)) None → m₁ ≡ memory_with (rules_held m) (put_after s act b)
@@ -107,11 +116,11 @@ module _ (m : List ℕ) (g : Bytes m) (act : Act) (r : Ready m act.source act.ta
 
     got_sites : set s.sites i x ≡ (got_after s act k).sites
     got_sites =
-        rw (read, get_or-set_same s.sites i moved no_site r.source)
+        rw (read, get_or-set_same s.sites i moved no_site r.sited.source)
         (sym (set-set s.sites i moved (informed_by s act k)))
 
     got_written : m₁ ≡ memory_of (with_sites (set s.sites i x) (net_of (image_in m)))
-    got_written = site_written (net_of (image_in m)) (held_fits m g r.held) i x r.source (held_memory m g r.held) site
+    got_written = site_written (net_of (image_in m)) (held_fits m g r.held) i x r.sited.source (held_memory m g r.held) site
 
     pub got_read : eqb act.action.capability 2 ≡ false → m₁ ≡ memory_with (rules_held m) (got_after s act k)
     got_read e = got_written ∙ rw (got_sites, e)

@@ -20,7 +20,7 @@ use Rattle.stepping.specs.declared.Answer.TheVariants.{Granted}
 use Rattle.stepping.proofs.StepLaws.{Begun, chosen-hits, asked_put, asked_get}
 use Rattle.stepping.proofs.Keeps.{next_small, step_keeps}
 use Rattle.monitor.specs.Memory.{holds_net, rules_held, state_held, memory_with}
-use Rattle.monitor.specs.Plan.{plan_of, act_in, Ready}
+use Rattle.monitor.specs.Plan.{plan_of, act_in, stepped, Ready}
 use Rattle.monitor.specs.declared.ask.Grant.{Grant}
 use Rattle.monitor.specs.declared.ask.Grant.TheVariants.{Put, Get}
 use Rattle.monitor.proofs.Holding.{held_memory, held_formed}
@@ -52,7 +52,7 @@ module _ (m : List ℕ) (g : Bytes m) (e : holds_net m ≡ true) (i : ℕ) (act 
   s = state_held m
 
   ready : Begun s i act.target → Ready m i act.target
-  ready h = record { held = e; source = h.source; target = h.target; small = next_small s r (held_formed m g e) i act.target h }
+  ready h = record { held = e; sited = record { source = h.source; target = h.target; small = next_small s r (held_formed m g e) i act.target h } }
 
   fits_after : (q : Plan) → q ≡ asking r s i → T (all site_fits (done s q).after.sites)
   fits_after q w =
@@ -67,6 +67,9 @@ module _ (m : List ℕ) (g : Bytes m) (e : holds_net m ≡ true) (i : ℕ) (act 
 
     pub put_done : put_after s act (has_room s act) ≡ (step r s i).after
     put_done = ap (λ (q : Plan). (done s q).after) p
+
+    pub put_memory : {n : List ℕ} → n ≡ memory_with r (put_after s act (has_room s act)) → n ≡ stepped m i
+    put_memory w = w ∙ ap (memory_with r) put_done
 
   module _ (k : ℕ) (p : get act k ≡ asking r s i) where
     pub get_ready : Ready m i act.target
@@ -85,3 +88,6 @@ module _ (m : List ℕ) (g : Bytes m) (e : holds_net m ≡ true) (i : ℕ) (act 
 
     pub get_done : got_after s act k ≡ (step r s i).after
     get_done = ap (λ (q : Plan). (done s q).after) p
+
+    pub get_memory : {n : List ℕ} → n ≡ memory_with r (got_after s act k) → n ≡ stepped m i
+    get_memory w = w ∙ ap (memory_with r) get_done

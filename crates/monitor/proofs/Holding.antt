@@ -7,7 +7,7 @@ use mathlib.Core.List.{List, [], ◌∷◌, ◌++◌}
 use Prim.Native.Nat.{ℕ, zero, suc, ◌+◌, ◌-◌, ◌≤◌, ◌<◌}
 use native.Mathlib.Omega.{arith}
 use lib.Dec.{T, eqb}
-use lib.ListN.{length, take, drop, take-append-drop, length-drop, length-take}
+use lib.ListN.{length, get_or, take, drop, take-append-drop, length-drop, length-take}
 use lib.Seq.{get_or-take, drop_at}
 use borrow.Author.Tests.{eqb-true}
 use Rattle.words.specs.Bytes.{Bytes, u16_at, u32_at, blank, all_zero, padded}
@@ -16,7 +16,7 @@ use Rattle.net.specs.Net.{State, Rules, Net}
 use Rattle.net.specs.Image.{memory_size, end_in, net_of, image_of}
 use Rattle.net.proofs.Bodies.{contents, least_length, most_length_lem, bytes_take}
 use Rattle.net.proofs.Padding.{length-padded, take-padded, u16_at-padded, u32_at-padded}
-use Rattle.net.proofs.Images.{Fits}
+use Rattle.net.proofs.Images.{Fits, bytes_of_image}
 use Rattle.format.specs.Format.{well_formed}
 use Rattle.format.specs.Verdict.{is_accepted, size_ok, verdict_of}
 use Rattle.format.specs.declared.Refusal.{Refusal}
@@ -139,6 +139,17 @@ module _ (m : List ℕ) (g : Bytes m) (e : holds_net m ≡ true) where
   pub held_fits : Fits (net_of (image_in m))
   held_fits = formed_fits (net_of (image_in m)) held_formed
 
+-- ---- bytes with zeros after them are bytes
+zero_small : (n k : ℕ) → get_or (blank n) k 0 < 256
+zero_small zero k = omega arith
+zero_small (suc n) zero = omega arith
+zero_small (suc n) (suc k) = zero_small n k
+
+zeros_after : (b : List ℕ) → Bytes b → (n : ℕ) → Bytes (b ++ blank n)
+zeros_after [] h n k = zero_small n k
+zeros_after (x ∷ b) h n zero = h 0
+zeros_after (x ∷ b) h n (suc k) = zeros_after b (λ j. h (suc j)) n k
+
 -- ---- the memory of a well-formed net holds it
 module _ (r : Rules) (s : State) (t : T (well_formed (record { state = s; rules = r }))) where
   abbrev net : Net
@@ -146,6 +157,10 @@ module _ (r : Rules) (s : State) (t : T (well_formed (record { state = s; rules 
 
   pub memory_holds : holds_net (memory_with r s) ≡ true
   memory_holds = padded_holds (image_of net) (image_accepted net t)
+
+  pub memory_bytes : Bytes (memory_with r s)
+  unfolding padded
+  memory_bytes = zeros_after (image_of net) (bytes_of_image net (formed_fits net t)) (memory_size - length (image_of net))
 
   net_back : net_of (image_in (memory_with r s)) ≡ net
   net_back = ap net_of (image_padded (image_of net) (image_accepted net t)) ∙ net_of_formed net t

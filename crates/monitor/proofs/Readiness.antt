@@ -9,9 +9,8 @@ use Rattle.net.specs.Image.{width_of, count_in, offset_in, end_in, net_of, memor
 use Rattle.net.proofs.Bodies.{most_length, most_length_lem}
 use Rattle.net.proofs.Memory.{memory_says}
 use Rattle.format.proofs.Verdicts.{accepted_right}
-use Rattle.format.proofs.Ordered.{accepted_rows}
 use Rattle.monitor.specs.Memory.{image_in, state_held}
-use Rattle.monitor.specs.Plan.{Sited, Ready}
+use Rattle.monitor.specs.Plan.{Ready}
 use Rattle.monitor.proofs.Holding.{holds_parts, held_memory, held_fits}
 
 pub record Space (m : List ℕ) (i t : ℕ) : Type 0 where
@@ -24,11 +23,6 @@ pub record Space (m : List ℕ) (i t : ℕ) : Type 0 where
   pub rows : offset_in m 5 + 10 * count_in m 5 ≡ end_in m
   pub counted : count_in m 5 ≡ length (state_held m).rows
   pub few : count_in m 5 ≤ 512
-
-pub sited : (m : List ℕ) (i t : ℕ) → Ready m i t → Sited (image_in m) i t
-sited m i t r =
-    let a = (holds_parts m r.held).accepted in
-    record { source = r.source; target = r.target; small = r.small; rows = accepted_rows (image_in m) a }
 
 module _ (m : List ℕ) (g : Bytes m) (i t : ℕ) (r : Ready m i t) where
   pub space : Space m i t
@@ -43,9 +37,9 @@ module _ (m : List ℕ) (g : Bytes m) (i t : ℕ) (r : Ready m i t) where
       record {
         size = h.size;
         end = omega (arith, h.whole, most_length_lem (image_in m) (accepted_right (image_in m) h.accepted).contents);
-        source = omega (arith, h.size, f.few_sites, r.source);
-        target = omega (arith, h.size, f.few_sites, r.target);
-        owner = omega (arith, f.few_sites, r.target);
+        source = omega (arith, h.size, f.few_sites, r.sited.source);
+        target = omega (arith, h.size, f.few_sites, r.sited.target);
+        owner = omega (arith, f.few_sites, r.sited.target);
         base = omega (arith, at, says.at5);
         rows = refl;
         counted = counted;

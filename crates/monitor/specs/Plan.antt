@@ -1,18 +1,18 @@
--- What the code's answer to asking stands for, what acting on it reads, and how the starts of rows follow it. Assumes nothing.
-use Rattle.std.specs.Prelude.{◌≡◌, ℕ, suc, ◌+◌, ◌-◌, ◌/◌, ◌≤◌, ◌<◌, true, cond, List, ltb, eqb, length, get_or, None, Option, Some, Result, Ok, Err}
-use Rattle.words.specs.Tables.{Ordered, count_below, starts_more, starts_less}
-use Rattle.net.specs.Records.{action_width, row_width}
+-- What the code's answer to asking stands for, and what acting on it reads. Assumes nothing.
+use Rattle.std.specs.Prelude.{◌≡◌, ℕ, suc, ◌+◌, ◌/◌, ◌<◌, true, cond, List, ltb, length, None, Option, Some, Result, Ok, Err}
+use Rattle.words.specs.Tables.{count_below}
+use Rattle.net.specs.Records.{action_width}
 use Rattle.net.specs.Net.{State, store_limit, site_at, program, held}
-use Rattle.net.specs.Image.{body_in, actions_in, state_in}
+use Rattle.net.specs.Image.{actions_in, state_in}
 use Rattle.net.specs.declared.Action.{Action}
 use Rattle.net.specs.declared.Site.{Site}
 use Rattle.net.specs.declared.Row.{Row}
 use Rattle.policy.specs.House.{act_of}
 use Rattle.policy.specs.declared.Act.{Act}
-use Rattle.stepping.specs.Step.{Start, stop, go, Plan, refuse, put, get, change, advance, marked, loses, informed, bound_by, place_for}
+use Rattle.stepping.specs.Step.{Start, stop, go, Plan, refuse, put, get, change, advance, marked, loses, informed, bound_by, place_for, asking, step}
 use Rattle.stepping.specs.declared.Answer.{Answer}
 use Rattle.stepping.specs.declared.Answer.TheVariants.{NoPlace}
-use Rattle.monitor.specs.Memory.{holds_net, state_held}
+use Rattle.monitor.specs.Memory.{image_in, holds_net, rules_held, state_held, memory_with}
 use Rattle.monitor.specs.declared.ask.Grant.{Grant}
 use Rattle.monitor.specs.declared.ask.Grant.TheVariants.{Put, Get}
 use Rattle.monitor.specs.declared.act.Writes.{Writes}
@@ -37,12 +37,18 @@ abbrev pub act_in : Grant → Act
 act_in (Put act) = act
 act_in (Get act k) = act
 
--- ---- an image in which sites i and t are, i can go one action further, and the rows stand in the order of their owners
+-- ---- on memory that holds a net: what a site would do, and memory after a step of the site
+abbrev pub asked_of : List ℕ → ℕ → Plan
+asked_of m i = asking (rules_held m) (state_held m) i
+
+abbrev pub stepped : List ℕ → ℕ → List ℕ
+stepped m i = memory_with (rules_held m) (step (rules_held m) (state_held m) i).after
+
+-- ---- an image in which sites i and t are, and i can go one action further
 pub record Sited (s : List ℕ) (i t : ℕ) : Type 0 where
   pub source : i < length (state_in s).sites
   pub target : t < length (state_in s).sites
   pub small : suc (site_at (state_in s).sites i).position < 65536
-  pub rows : Ordered row_width (body_in s 5)
 
 -- the source of a take or read of row k, after it
 abbrev pub informed_by : State → Act → ℕ → Site
@@ -65,21 +71,4 @@ pub record Reads (s : State) (i t : ℕ) (x : Writes) : Type 0 where
 -- memory that holds a net in which sites i and t are, and i can go one action further
 pub record Ready (m : List ℕ) (i t : ℕ) : Type 0 where
   pub held : holds_net m ≡ true
-  pub source : i < length (state_held m).sites
-  pub target : t < length (state_held m).sites
-  pub small : suc (site_at (state_held m).sites i).position < 65536
-
--- ---- the starts of rows after a grant at site t: a put with room for its row adds one, a take takes one out
-unfoldable pub starts_after : ℕ → ℕ → List ℕ → List ℕ
-starts_after capability t l =
-    cond (eqb capability 1)
-    (cond (ltb (get_or l (t + 1) 0 - get_or l t 0) store_limit) (starts_more t l) l)
-    (cond (eqb capability 2) (starts_less t l) l)
-
--- starts that can be so changed
-pub record Countable (capability t : ℕ) (l : List ℕ) : Type 0 where
-  pub wide : length l ≡ 33
-  pub site : t < 32
-  pub rises : get_or l t 0 ≤ get_or l (t + 1) 0
-  pub more : (u : ℕ) → get_or l u 0 < 65535
-  pub less : capability ≡ 2 → (u : ℕ) → t < u → u < 33 → 0 < get_or l u 0
+  pub sited : Sited (image_in m) i t

@@ -1,20 +1,18 @@
 // Acting: what a granted step changes. Records are read and changed by value, and written whole.
-ghost use Rattle.std.specs.Prelude.{◌≡◌, true, cond, map, suc, ◌+◌, ◌-◌, ◌*◌, ◌≤◌, ◌<◌, T, length, set};
+ghost use Rattle.std.specs.Prelude.{◌≡◌, true, cond, map, suc, ◌+◌, ◌-◌, ◌*◌, ◌≤◌, ◌<◌, T, length};
 ghost use Rattle.words.specs.Bytes.{splice, inserted, removed, u16_bytes};
 ghost use Rattle.words.specs.Lists.{all};
-ghost use Rattle.words.specs.Tables.{Ordered};
 ghost use Rattle.level.specs.Level.{join};
-ghost use Rattle.net.specs.Records.{row_width, site_fits, site_bytes, row_bytes};
-ghost use Rattle.net.specs.Net.{site_at, row_at};
-ghost use Rattle.net.specs.Image.{count_in, offset_in, body_in, state_in};
-ghost use Rattle.stepping.specs.Step.{advance, marked, loses, informed, row_put, has_room, put_after, got_after, asking, step};
-ghost use Rattle.monitor.specs.Memory.{holds_net, image_in, rules_held, state_held, memory_with};
-ghost use Rattle.monitor.specs.Plan.{informed_by, room_in, plan_of, act_in, Sited, Ready, Reads};
+ghost use Rattle.net.specs.Records.{site_fits, site_bytes, row_bytes};
+ghost use Rattle.net.specs.Image.{count_in, offset_in, state_in};
+ghost use Rattle.stepping.specs.Step.{advance, marked, loses, informed, row_put, has_room, put_after, got_after};
+ghost use Rattle.monitor.specs.Memory.{rules_held, state_held, memory_with};
+ghost use Rattle.monitor.specs.Plan.{informed_by, Sited, Ready, Reads};
 
-use crate::ask::Grant;
-use format::{Image, Kind, STORE_LIMIT};
+use crate::accepted::Accepted;
+use format::{Header, Kind};
 use level::Level;
-use net::{Capability, Operand, Record, Row, Site, count, nth};
+use net::{Capability, Operand, Record, Row, Site};
 use policy::Act;
 
 // Where the sites begin in memory.
@@ -88,14 +86,13 @@ pub struct Rows {
 }
 
 impl Rows {
-    // Those of memory that has a header.
-    fn of(memory: &[u8]) -> Rows
-        requires { 44 ≤ length memory.now }
-        ensures { (result.base ≡ offset_in memory.now 5) × (result.count ≡ count_in memory.now 5) }
+    // Those that a header says.
+    fn of(header: Header<'_>) -> Rows
+        ensures { (result.base ≡ offset_in header.entry.bytes.now 5) × (result.count ≡ count_in header.entry.bytes.now 5) }
     {
         Rows {
-            base: format::offset(memory, Kind::Rows),
-            count: format::records(memory, Kind::Rows),
+            base: header.offset(Kind::Rows),
+            count: header.records(Kind::Rows),
         }
     }
 
@@ -111,6 +108,7 @@ impl Rows {
             base + Row::WIDTH * count,
             &row.bytes(),
         );
+        // `as`, since below 65536 by the `requires` a test could not fail.
         words::put(memory, ROW_COUNT, &words::word_bytes((count + 1) as u16));
     }
 
@@ -126,51 +124,9 @@ impl Rows {
             base + Row::WIDTH * count,
             Row::WIDTH,
         );
+        // `as`, since below 65536 by the `requires` a test could not fail.
         words::put(memory, ROW_COUNT, &words::word_bytes((count - 1) as u16));
     }
-}
-
-// The record of site i of an image.
-fn site_of(image: Image<'_>, i: usize) -> Site
-    requires { i < length (state_in image.bytes.now).sites }
-    ensures { result ≡ site_at (state_in image.entry.bytes.now).sites i }
-{
-    nth(image.body(Kind::Sites), i)
-}
-
-// Row k of an image.
-fn row_of(image: Image<'_>, k: usize) -> Row
-    requires { k < length (state_in image.bytes.now).rows }
-    ensures { result ≡ row_at (state_in image.entry.bytes.now).rows k }
-{
-    nth(image.body(Kind::Rows), k)
-}
-
-// Site t of an image once site i is x.
-fn site_after(image: Image<'_>, i: usize, x: Site, t: usize) -> Site
-    requires { Sited image.bytes.now i t }
-    ensures { result ≡ site_at (set (state_in image.entry.bytes.now).sites i x) t }
-{
-    if i == t {
-        return x;
-    }
-    site_of(image, t)
-}
-
-// Where a put's row goes in all rows, if the store has room for it: the rows of site t end at `end`, and if the row STORE_LIMIT before that is
-// t's too, the store is full.
-fn room_of(image: Image<'_>, t: usize) -> Option<usize>
-    requires { (t < 65536) × Ordered row_width (body_in image.bytes.now 5) }
-    ensures { result ≡ room_in t (state_in image.entry.bytes.now).rows }
-{
-    let rows = image.body(Kind::Rows);
-    let end = words::count_below(rows, Row::WIDTH, count::<Row>(rows), t + 1);
-    if STORE_LIMIT <= end {
-        if usize::from(rows[Row::WIDTH * (end - STORE_LIMIT)]) == t {
-            return None;
-        }
-    }
-    Some(end)
 }
 
 // The values of four fields.
@@ -186,6 +142,7 @@ fn row_put(act: &Act) -> Row
     ensures { result ≡ row_put act.now }
 {
     Row {
+        // `as`, since below 256 by the `requires` a test could not fail.
         owner: act.target as u8,
         count: act.action.count,
         fields: values(act.action.fields),
@@ -193,13 +150,13 @@ fn row_put(act: &Act) -> Row
 }
 
 // The source after it took or read row k at the target.
-fn read_get(image: Image<'_>, act: &Act, k: usize) -> Site
+pub(crate) fn read_get(image: Accepted<'_>, act: &Act, k: usize) -> Site
     requires { Sited image.bytes.now act.now.source act.now.target × (k < length (state_in image.bytes.now).rows) }
     ensures { result ≡ informed_by (state_in image.entry.bytes.now) act.now k }
 {
-    let x = site_of(image, act.source);
-    let y = site_of(image, act.target);
-    let vars = policy::bound(act.action, row_of(image, k), x.vars);
+    let x = image.site(act.source);
+    let y = image.site(act.target);
+    let vars = policy::bound(act.action, image.row(k), x.vars);
     informed(advance(x, vars), y.o, y.ho)
 }
 
@@ -219,29 +176,18 @@ pub struct Writes {
 }
 
 // The same, read from an image.
-fn read_put(image: Image<'_>, act: &Act) -> Writes
+pub(crate) fn read_put(image: Accepted<'_>, act: &Act) -> Writes
     requires { Sited image.bytes.now act.now.source act.now.target }
     ensures { Reads (state_in image.entry.bytes.now) act.now.source act.now.target result }
 {
-    let x = site_of(image, act.source);
+    let x = image.site(act.source);
     let source = advance(x, x.vars);
-    let place = room_of(image, act.target);
-    let y = site_after(image, act.source, source, act.target);
+    let place = image.room(act.target);
+    let y = image.site_after(act.source, source, act.target);
     Writes {
         source,
         target: changed(y, place.is_some(), x.c, x.hs),
         place,
-    }
-}
-
-// The image at the front of memory that holds a net.
-pub(crate) fn image_of(memory: &[u8]) -> Image<'_>
-    requires { holds_net memory.now ≡ true }
-    ensures { result.bytes.now ≡ image_in memory.now }
-{
-    let end = format::end(memory);
-    Image {
-        bytes: &memory[..end],
     }
 }
 
@@ -254,43 +200,28 @@ fn write_sites(memory: &mut [u8], i: usize, x: Site, t: usize, y: Site)
     write_site(memory, t, y);
 }
 
-// A put.
-fn put(memory: &mut [u8], act: &Act)
-    requires { Ready memory.old act.now.source act.now.target × T (all site_fits (put_after (state_held memory.old) act.now (has_room (state_held memory.old) act.now)).sites) }
+// Writes what a put was found to write.
+pub(crate) fn put(memory: &mut [u8], act: &Act, writes: &Writes)
+    requires { Ready memory.old act.now.source act.now.target × Reads (state_held memory.old) act.now.source act.now.target writes.now
+        × T (all site_fits (put_after (state_held memory.old) act.now (has_room (state_held memory.old) act.now)).sites) }
     ensures { memory.new ≡ memory_with (rules_held memory.old) (put_after (state_held memory.old) act.now (has_room (state_held memory.old) act.now)) }
 {
-    let Writes {
-        source,
-        target,
-        place,
-    } = read_put(image_of(memory), act);
-    let rows = Rows::of(memory);
-    write_sites(memory, act.source, source, act.target, target);
-    if let Some(k) = place {
+    let rows = Rows::of(Header { bytes: memory });
+    write_sites(memory, act.source, writes.source, act.target, writes.target);
+    if let Some(k) = writes.place {
         rows.add(memory, k, row_put(act));
     }
 }
 
-// A take or read of row k.
-fn get(memory: &mut [u8], act: &Act, k: usize)
-    requires { Ready memory.old act.now.source act.now.target × (k < length (state_held memory.old).rows) × T (all site_fits (got_after (state_held memory.old) act.now k).sites) }
+// Writes the source of a take or read of row k as it was found to be after it, and takes the row out.
+pub(crate) fn get(memory: &mut [u8], act: &Act, k: usize, source: Site)
+    requires { Ready memory.old act.now.source act.now.target × (k < length (state_held memory.old).rows) × (source ≡ informed_by (state_held memory.old) act.now k)
+        × T (all site_fits (got_after (state_held memory.old) act.now k).sites) }
     ensures { memory.new ≡ memory_with (rules_held memory.old) (got_after (state_held memory.old) act.now k) }
 {
-    let x = read_get(image_of(memory), act, k);
-    let rows = Rows::of(memory);
-    write_site(memory, act.source, x);
+    let rows = Rows::of(Header { bytes: memory });
+    write_site(memory, act.source, source);
     if act.action.does(Capability::Take) {
         rows.remove(memory, k);
-    }
-}
-
-// Does what asking found.
-pub(crate) fn act(memory: &mut [u8], grant: &Grant)
-    requires { (holds_net memory.old ≡ true) × (plan_of (Ok grant.now) ≡ asking (rules_held memory.old) (state_held memory.old) (act_in grant.now).source) }
-    ensures { memory.new ≡ memory_with (rules_held memory.old) (step (rules_held memory.old) (state_held memory.old) (act_in grant.now).source).after }
-{
-    match grant {
-        Grant::Put(act) => put(memory, act),
-        Grant::Get(act, k) => get(memory, act, *k),
     }
 }

@@ -1,12 +1,12 @@
 // Asking: what a step would do, found by reading alone.
 ghost use Rattle.std.specs.Prelude.{◌≡◌, ◌<◌, length, Ok};
-ghost use Rattle.words.specs.Tables.{Ordered, starts_of};
-ghost use Rattle.net.specs.Image.{body_in, state_in, rules_in, rows_in};
-ghost use Rattle.format.specs.Verdict.{verdict_of};
+ghost use Rattle.words.specs.Tables.{starts_of};
+ghost use Rattle.net.specs.Image.{body_in, state_in, rules_in};
 ghost use Rattle.stepping.specs.Step.{resolved, resolved_action, chosen, go, planned, allowed, asking};
-ghost use Rattle.monitor.specs.Plan.{next_in, plan_of, act_in};
+ghost use Rattle.monitor.specs.Plan.{next_in, plan_of};
 
-use format::{Image, Kind};
+use crate::accepted::Accepted;
+use format::Kind;
 use net::{Action, Capability, Operand, Record, Row, Site, Tag, count, nth};
 use policy::{Act, Tables};
 use stepping::Answer;
@@ -16,17 +16,6 @@ use stepping::Answer;
 pub enum Grant {
     Put(Act),
     Get(Act, usize),
-}
-
-impl Grant {
-    // The action that is granted.
-    pub fn act(&self) -> &Act
-        ensures { result.now ≡ act_in self.now }
-    {
-        match self {
-            Grant::Put(act) | Grant::Get(act, _) => act,
-        }
-    }
 }
 
 // An operand with the value of a used variable in its place.
@@ -53,36 +42,36 @@ fn resolved_action(x: Action, vars: &[u16; 8]) -> Action
     }
 }
 
-// The oldest row at the target that fits the action. The rows at the target stand together, from where they start to where the next site's do.
-fn oldest(rows: &[u8], starts: &[u16; 33], act: &Act) -> Option<usize>
-    requires { (act.now.target < 32) × Ordered 10 rows.now × (starts.now ≡ starts_of 10 rows.now) }
-    ensures { result ≡ chosen act.now (rows_in rows.now) }
-{
-    let start = usize::from(starts[act.target]);
-    let end = usize::from(starts[act.target + 1]);
-    (start..end).find(|&k| policy::fits(act.action, nth(rows, k)))
-}
-
-// Where action number p of site i stands among all actions: p past the first of i's, if the action there is i's.
-fn next_of(actions: &[u8], i: usize, p: u16) -> Option<usize>
-    requires { Ordered 24 actions.now }
-    ensures { result ≡ next_in actions.now i p }
-{
-    let n = count::<Action>(actions);
-    let k = words::count_below(actions, Action::WIDTH, n, i) + usize::from(p);
-    (k < n && usize::from(actions[Action::WIDTH * k]) == i).then_some(k)
-}
-
 // A net as asking reads it: an accepted image, and where the rows of each site start.
 #[derive(Clone, Copy)]
 pub struct Net<'a> {
-    pub image: Image<'a>,
+    pub image: Accepted<'a>,
     pub starts: &'a [u16; 33],
-    ghost accepted: { verdict_of image.bytes.now ≡ Ok tt },
     ghost started: { starts.now ≡ starts_of 10 (body_in image.bytes.now 5) },
 }
 
 impl Net<'_> {
+    // The oldest row at the target that fits the action. The rows at the target stand together, from where they start to where the next site's do.
+    fn oldest(&self, act: &Act) -> Option<usize>
+        requires { act.now.target < 32 }
+        ensures { result ≡ chosen act.now (state_in self.now.image.bytes.now).rows }
+    {
+        let rows = self.image.body(Kind::Rows);
+        let start = usize::from(self.starts[act.target]);
+        let end = usize::from(self.starts[act.target + 1]);
+        (start..end).find(|&k| policy::fits(act.action, nth(rows, k)))
+    }
+
+    // Where action number p of site i stands among all actions: p past the first of i's, if the action there is i's.
+    fn next_of(&self, i: usize, p: u16) -> Option<usize>
+        ensures { result ≡ next_in (body_in self.now.image.bytes.now 4) i p }
+    {
+        let actions = self.image.body(Kind::Actions);
+        let n = count::<Action>(actions);
+        let k = words::count_below(actions, Action::WIDTH, n, i) + usize::from(p);
+        (k < n && usize::from(actions[Action::WIDTH * k]) == i).then_some(k)
+    }
+
     // Step 5, of an action that the rules let pass: a put needs no row, a take or read the oldest that fits.
     fn allowed(&self, act: Act) -> Result<Grant, Answer>
         requires { act.target < 32 }
@@ -91,8 +80,7 @@ impl Net<'_> {
         if act.action.does(Capability::Put) {
             return Ok(Grant::Put(act));
         }
-        let rows = self.image.body(Kind::Rows);
-        let row = oldest(rows, self.starts, &act).ok_or(Answer::NoMatch)?;
+        let row = self.oldest(&act).ok_or(Answer::NoMatch)?;
         Ok(Grant::Get(act, row))
     }
 
@@ -125,7 +113,7 @@ impl Net<'_> {
         }
         let site: Site = nth(sites, i);
         let actions = self.image.body(Kind::Actions);
-        let k = next_of(actions, i, site.position).ok_or(Answer::Done)?;
+        let k = self.next_of(i, site.position).ok_or(Answer::Done)?;
         let action = resolved_action(nth(actions, k), &site.vars);
         let Some(target) = net::place_of(sites, action.target.value) else {
             return Err(Answer::NoPlace);

@@ -4,23 +4,19 @@
 // Net memory is the image itself, then zeros: so loading is a check and a copy, saving is a copy, and a step writes whole records.
 #![tactic(auto)]
 
+mod accepted;
 mod act;
 mod ask;
+mod memory;
 
-ghost use Rattle.std.specs.Prelude.{◌≡◌, true, false, length, MatchOption};
-ghost use Rattle.words.specs.Tables.{starts_of};
-ghost use Rattle.net.specs.Records.{row_width};
-ghost use Rattle.net.specs.Image.{body_in};
+ghost use Rattle.std.specs.Prelude.{◌≡◌, true, false, Err, length, MatchOption};
 ghost use Rattle.format.specs.Verdict.{verdict_of, body_of, body_place};
-ghost use Rattle.stepping.specs.Step.{step};
-ghost use Rattle.monitor.specs.Memory.{image_in, holds_net, rules_held, state_held, starts_held, memory_with};
-ghost use Rattle.monitor.specs.Memory.{load_answer, load_memory, save_answer, save_output, step_answer, step_memory, run_answer, run_memory, run_answers};
-ghost use Rattle.monitor.specs.Plan.{starts_after, Countable};
+ghost use Rattle.monitor.specs.Memory.{image_in, holds_net};
+ghost use Rattle.monitor.specs.Memory.{load_answer, load_memory, saved_number, save_answer, save_output, step_answer, step_memory, ran_number, run_answer, run_memory, run_answers};
 
-use ask::{Grant, Net};
-use format::{Image, Kind, Refusal, Verdict};
-use net::{Capability, Record, Row};
-use policy::Act;
+use accepted::Accepted;
+use format::{Header, Refusal, Verdict};
+use memory::HeldNet;
 use stepping::Answer;
 
 // Why nothing is saved: 6 NONET, 20 ROOM.
@@ -35,6 +31,29 @@ pub enum SaveError {
 pub enum RunError {
     Long,
     NoNet,
+}
+
+// The paper's numbers of both.
+impl From<SaveError> for u8 {
+    ghost from_gives = { λ error n. n ≡ saved_number (Err error) };
+
+    fn from(error: SaveError) -> u8 {
+        match error {
+            SaveError::NoNet => 6,
+            SaveError::Room => 20,
+        }
+    }
+}
+
+impl From<RunError> for u8 {
+    ghost from_gives = { λ error n. n ≡ ran_number (Err error) };
+
+    fn from(error: RunError) -> u8 {
+        match error {
+            RunError::Long => 7,
+            RunError::NoNet => 6,
+        }
+    }
 }
 
 // The bytes of net memory.
@@ -72,18 +91,18 @@ pub fn load(image: &[u8], memory: &mut [u8]) -> Verdict
 }
 
 // The image of the net that memory holds, if it holds one.
-fn held(memory: &[u8]) -> Option<Image<'_>>
+fn held(memory: &[u8]) -> Option<Accepted<'_>>
     ensures { MatchOption result (holds_net memory.now ≡ false) (λ image. (image.bytes.now ≡ image_in memory.now) × (holds_net memory.now ≡ true)) }
 {
     if memory.len() != MEMORY {
         return None;
     }
-    let end = format::end(memory);
+    let end = Header { bytes: memory }.end();
     if MEMORY < end {
         return None;
     }
-    let image = format::accepted(&memory[..end])?;
-    words::zeros_from(memory, end).then_some(image)
+    let bytes = format::accepted(&memory[..end])?.bytes;
+    words::zeros_from(memory, end).then_some(Accepted { bytes })
 }
 
 // Writes the image of the net that memory holds.
@@ -99,51 +118,6 @@ pub fn save(memory: &[u8], out: &mut [u8]) -> Result<usize, SaveError>
     Ok(image.len())
 }
 
-// Where the rows of each site start.
-fn starts_of(image: Image<'_>) -> [u16; 33]
-    ensures { result ≡ starts_of row_width (body_in image.entry.bytes.now 5) }
-{
-    words::starts(image.body(Kind::Rows), Row::WIDTH)
-}
-
-// Keeps the starts of rows right for a grant: a put with room for its row adds one at its target, a take takes one out.
-#[tactic(auto, unfolding(crate::specs::Plan::starts_after))]
-fn recount(starts: &mut [u16; 33], act: &Act)
-    requires { Countable act.now.action.capability act.now.target starts.old }
-    ensures { starts.new ≡ starts_after act.now.action.capability act.now.target starts.old }
-{
-    let t = act.target;
-    if act.action.does(Capability::Put) {
-        if usize::from(starts[t + 1] - starts[t]) < format::STORE_LIMIT {
-            words::move_starts::<true>(starts, t);
-        }
-    } else if act.action.does(Capability::Take) {
-        words::move_starts::<false>(starts, t);
-    }
-}
-
-// One step of a site on memory that holds a net, with the starts of its rows kept right. What memory holds stands in the contract and not in a
-// struct round memory and starts: of bytes behind a field that is `&mut` the check does not know that they are bytes.
-fn tried(memory: &mut [u8], starts: &mut [u16; 33], site: usize) -> Answer
-    requires { (holds_net memory.old ≡ true) × (starts.old ≡ starts_held memory.old) }
-    ensures value { result ≡ (step (rules_held memory.old) (state_held memory.old) site).answer }
-    ensures memory_after { memory.new ≡ memory_with (rules_held memory.old) (step (rules_held memory.old) (state_held memory.old) site).after }
-    ensures starts_kept { starts.new ≡ starts_held memory.new }
-{
-    let net = Net {
-        image: act::image_of(memory),
-        starts,
-    };
-    match net.ask(site) {
-        Ok(grant) => {
-            recount(starts, grant.act());
-            act::act(memory, &grant);
-            Answer::Granted
-        }
-        Err(answer) => answer,
-    }
-}
-
 // Tries the next action of a site.
 pub fn step(memory: &mut [u8], site: usize) -> Answer
     ensures value { result ≡ step_answer memory.old site }
@@ -152,8 +126,9 @@ pub fn step(memory: &mut [u8], site: usize) -> Answer
     let Some(image) = held(memory) else {
         return Answer::NoNet;
     };
-    let mut starts = starts_of(image);
-    tried(memory, &mut starts, site)
+    let starts = image.starts();
+    let mut net = HeldNet { memory, starts };
+    net.step(site)
 }
 
 // One step for each byte of `steps`, in order: memory is checked once, and once is worked out where the rows of each site start.
@@ -166,9 +141,10 @@ pub fn run(memory: &mut [u8], steps: &[u8], answers: &mut [u8]) -> Result<(), Ru
         return Err(RunError::Long);
     }
     let image = held(memory).ok_or(RunError::NoNet)?;
-    let mut starts = starts_of(image);
+    let starts = image.starts();
+    let mut net = HeldNet { memory, starts };
     for (i, &site) in steps.iter().enumerate() {
-        answers[i] = u8::from(tried(memory, &mut starts, usize::from(site)));
+        answers[i] = u8::from(net.step(usize::from(site)));
     }
     Ok(())
 }

@@ -51,7 +51,7 @@ pub fn count<R: Record>(table: &[u8]) -> usize
 }
 
 // N records, one after the other, from byte `at` on.
-fn several<R: Record, const N: usize>(s: &[u8], at: usize) -> [R; N]
+pub fn several<R: Record, const N: usize>(s: &[u8], at: usize) -> [R; N]
     requires { at + R.WIDTH * N ≤ length s.now }
     ensures { result ≡ build N (λ k. R.read_of s.now (at + R.WIDTH * k)) }
 {

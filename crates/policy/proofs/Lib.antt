@@ -1,4 +1,5 @@
 pub mod Bodies
+pub mod Chunks
 pub mod Owned
 pub mod Tested
 pub mod Four

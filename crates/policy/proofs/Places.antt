@@ -8,24 +8,10 @@ use native.Mathlib.Numerals.{add-one}
 use native.Mathlib.Omega.{arith}
 use lib.ListN.{length, get_or, take, drop, length-take}
 use lib.Seq.{drop-cons}
-use Rattle.std.specs.List.{list_all, list_any, range_with_len, zip}
+use Rattle.std.specs.List.{list_all, range_with_len, zip}
 use Rattle.std.proofs.lemmas.List.{take_min}
-use Rattle.words.specs.Lists.{all, some, fit_all}
+use Rattle.words.specs.Lists.{fit_all}
 use Rattle.policy.specs.Match.{through}
-
--- ---- the numbers from a on, where the test of a number is that of the element there
-module _ {A : Type 0} (p : A → Bool) (d : A) (l : List A) (test : ℕ → Bool) (same : (i : ℕ) → i < length l → test i ≡ p (get_or l i d)) where
-  pub range_some : (a n : ℕ) → ((i : ℕ) → i < n → a + i < length l) → list_any test (range_with_len a n) ≡ some p (take n (drop a l))
-  range_some a zero h = refl
-  range_some a (suc n) h =
-      let b : a < length l = omega (arith, h 0 (omega arith)) in
-      rw (drop-cons l a d b, same a b, range_some (a + 1) n (λ i k. omega (arith, h (i + 1) (omega arith))), add-one a)
-
-  pub range_all : (a n : ℕ) → ((i : ℕ) → i < n → a + i < length l) → list_all test (range_with_len a n) ≡ all p (take n (drop a l))
-  range_all a zero h = refl
-  range_all a (suc n) h =
-      let b : a < length l = omega (arith, h 0 (omega arith)) in
-      rw (drop-cons l a d b, same a b, range_all (a + 1) n (λ i k. omega (arith, h (i + 1) (omega arith))), add-one a)
 
 module _ {A B : Type 0} (fit : A → B → Bool) where
   -- ---- two lists side by side

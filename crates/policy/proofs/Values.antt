@@ -1,10 +1,10 @@
--- The value of node n, below top, in a table of bytes: by the name of its kind, which stands at byte 24 * n. What the two evaluators' proof
--- cites. Assumes nothing.
+-- The value of node n, below top, in a table of bytes that is divided into nodes: by the name of its kind, which is its first byte. What
+-- the two evaluators' proof cites. Assumes nothing.
 use mathlib.Core.Path.{◌≡◌, refl, sym, ap, ◌∙◌}
 use mathlib.Core.Bool.{Bool, true, false, cond, not, ◌&&◌, ◌||◌}
 use mathlib.Core.List.{List, [], ◌∷◌}
 use mathlib.Core.Logic.{◌⊎◌, inl, inr, ⊎_elim}
-use Prim.Native.Nat.{ℕ, zero, suc, ◌+◌, ◌-◌, ◌*◌, ◌%◌, ◌≤◌, ◌<◌}
+use Prim.Native.Nat.{ℕ, zero, suc, ◌+◌, ◌-◌, ◌%◌, ◌≤◌, ◌<◌}
 use native.Mathlib.Omega.{arith}
 use lib.Dec.{ltb}
 use lib.ListN.{length, get_or, get_or-eq_default}
@@ -27,6 +27,8 @@ use Rattle.net.specs.Net.{node_at}
 use Rattle.net.specs.Image.{nodes_in}
 use Rattle.net.specs.declared.Node.{Node}
 use Rattle.policy.specs.House.{Ask, name, known, meant, test_of, yes, advice, condition_of, advice_of, value_of, row_of}
+use Rattle.policy.specs.Asked.{Divided}
+use Rattle.policy.proofs.Chunks.{node_of}
 use Rattle.policy.proofs.Sorts.{value_read, yes_read, yes_none, advice_read, advice_none}
 
 -- an operator's second value may be left out where the first decides
@@ -129,9 +131,6 @@ module _ (q : Ask) (s : List ℕ) (n top : ℕ) where
   abbrev row : ℕ → List ℕ
   row = row_of q (nodes_in s)
 
-  abbrev pub node : Node
-  node = read_node s (node_width * n)
-
   -- past the row there is nothing
   past : top ≤ n → get_or (row top) n 0 ≡ 0
   past h = get_or-eq_default (row top) 0 (rw (length-fill (λ k r. value_of q (node_at (nodes_in s) k) r) top) h)
@@ -143,14 +142,23 @@ module _ (q : Ask) (s : List ℕ) (n top : ℕ) where
   advice_past h = sym (ap advice (past h))
 
   -- below top, what is worked out by the name of the kind is the value
-  module _ (h : n < top) (room : node_width * top ≤ length s) where
-    here : get_or (row top) n 0 ≡ value_of q node (row n)
-    here = value_read q (nodes_in s) top n h ∙ ap (λ (x : Node). value_of q x (row n)) (table_at read_node node_width s n no_node (omega arith))
+  module _ {l : List (List ℕ)} (divided : Divided node_width s l) (room : top ≤ length l) (h : n < top) where
+    abbrev own : List ℕ
+    own = get_or l n []
 
-    pub yes_here : {r : Result Condition Unknown} {b : Bool} → r ≡ codes.condition_of (get_or s (node_width * n) 0) → b ≡ holds_as q node (row n) r → b ≡ yes (get_or (row top) n 0)
+    abbrev pub node : Node
+    node = read_node own 0
+
+    here : get_or (row top) n 0 ≡ value_of q node (row n)
+    here =
+        let many = divided.many in
+        value_read q (nodes_in s) top n h
+        ∙ ap (λ (x : Node). value_of q x (row n)) (table_at read_node node_width s n no_node (omega arith) ∙ sym (node_of s divided n [] (omega arith)))
+
+    pub yes_here : {r : Result Condition Unknown} {b : Bool} → r ≡ codes.condition_of (get_or own 0 0) → b ≡ holds_as q node (row n) r → b ≡ yes (get_or (row top) n 0)
     unfolding read_node
     yes_here e g = g ∙ ap (holds_as q node (row n)) e ∙ sym (ap yes here ∙ yes_by_name q node (row n))
 
-    pub advice_here : {r : Result Advice Unknown} {v : ℕ} → r ≡ codes.advice_of (get_or s (node_width * n) 0) → v ≡ advises_as q node (row n) r → v ≡ advice (get_or (row top) n 0)
+    pub advice_here : {r : Result Advice Unknown} {v : ℕ} → r ≡ codes.advice_of (get_or own 0 0) → v ≡ advises_as q node (row n) r → v ≡ advice (get_or (row top) n 0)
     unfolding read_node
     advice_here e g = g ∙ ap (advises_as q node (row n)) e ∙ sym (ap advice here ∙ advice_by_name q node (row n))

@@ -1,8 +1,8 @@
-// Cuts: whether an aspect traps an action, and what the cut's variables take. An aspect is read where it stands in its body, no further
-// than the answer needs.
-ghost use Rattle.std.specs.Prelude.{◌≡◌, ◌+◌, ◌/◌, ◌<◌, ◌≤◌, length, take};
+// Cuts: whether an aspect traps an action, and what the cut's variables take. An aspect is its own 32 bytes, read no further than the
+// answer needs.
+ghost use Rattle.std.specs.Prelude.{◌≡◌, ◌/◌, ◌<◌, length, take};
 ghost use Rattle.words.specs.Lists.{fit_all};
-ghost use Rattle.net.specs.Records.{four_operands, read_aspect};
+ghost use Rattle.net.specs.Records.{read_aspect};
 ghost use Rattle.net.specs.Net.{fields_of, site_at};
 ghost use Rattle.net.specs.Image.{sites_in};
 ghost use Rattle.policy.specs.Match.{through};
@@ -41,28 +41,26 @@ fn named(sites: &[u8], site: usize) -> Operand
     }
 }
 
-// Whether the patterns from byte `at` on fit the action's fields.
-fn fields_fit(aspects: &[u8], at: usize, action: &Action) -> bool
-    requires { at + 16 ≤ length aspects.now }
-    ensures { result ≡ fit_all pattern_fits (take action.now.count (four_operands aspects.now at)) (fields_of action.now) }
+// Whether the aspect's patterns fit the action's fields.
+fn fields_fit(aspect: &[u8; 32], action: &Action) -> bool
+    ensures { result ≡ fit_all pattern_fits (take action.now.count (read_aspect aspect.now 0).fields) (fields_of action.now) }
 {
     let fields = used(&action.fields, action.count);
-    (0..fields.len()).all(|i| pattern_fits(Operand::read(aspects, at + 4 * i), fields[i]))
+    (0..fields.len()).all(|i| pattern_fits(Operand::read(aspect, 12 + 4 * i), fields[i]))
 }
 
-// Whether the aspect at byte `at` traps the action: the same capability and count, and parts that all fit.
+// Whether the aspect traps the action: the same capability and count, and parts that all fit.
 #[tactic(auto, unfolding(crate::specs::House::traps, net::specs::Records::read_aspect))]
-pub fn traps(aspects: &[u8], at: usize, case: &Case<'_>) -> bool
-    requires { at + 32 ≤ length aspects.now }
-    ensures { result ≡ traps (sites_in case.now.tables.sites.now) case.now.act (read_aspect aspects.now at) }
+pub fn traps(aspect: &[u8; 32], case: &Case<'_>) -> bool
+    ensures { result ≡ traps (sites_in case.now.tables.sites.now) case.now.act (read_aspect aspect.now 0) }
 {
     let sites = case.tables.sites;
     let act = &case.act;
-    aspects[at + 1] == act.action.capability
-        && aspects[at + 2] == act.action.count
-        && pattern_fits(Operand::read(aspects, at + 4), named(sites, act.source))
-        && pattern_fits(Operand::read(aspects, at + 8), named(sites, act.target))
-        && fields_fit(aspects, at + 12, &act.action)
+    aspect[1] == act.action.capability
+        && aspect[2] == act.action.count
+        && pattern_fits(Operand::read(aspect, 4), named(sites, act.source))
+        && pattern_fits(Operand::read(aspect, 8), named(sites, act.target))
+        && fields_fit(aspect, &act.action)
 }
 
 // A pattern meets its part of the action: a variable takes it.
@@ -75,36 +73,34 @@ fn takes(vars: &mut [u16; 8], p: Operand, x: Operand)
     }
 }
 
-// `count` patterns from byte `at` on meet the action's fields.
-fn fields_take(vars: &mut [u16; 8], aspects: &[u8], at: usize, count: u8, action: &Action)
-    requires { at + 16 ≤ length aspects.now }
-    ensures { vars.new ≡ through takes (take count (four_operands aspects.now at)) (fields_of action.now) vars.old }
+// The aspect's patterns, as many as it counts, meet the action's fields.
+fn fields_take(vars: &mut [u16; 8], aspect: &[u8; 32], action: &Action)
+    ensures { let x = read_aspect aspect.now 0 in vars.new ≡ through takes (take x.count x.fields) (fields_of action.now) vars.old }
 {
-    let fields = used(&action.fields, action.count.min(count));
+    let fields = used(&action.fields, action.count.min(aspect[2]));
     for (i, x) in fields.iter().enumerate() {
-        takes(vars, Operand::read(aspects, at + 4 * i), *x);
+        takes(vars, Operand::read(aspect, 12 + 4 * i), *x);
     }
 }
 
 // What the variables of the aspect's cut take from the action; the others are unset.
 #[tactic(auto, unfolding(crate::specs::House::taken, net::specs::Records::read_aspect))]
-pub fn taken(aspects: &[u8], at: usize, case: &Case<'_>) -> [u16; 8]
-    requires { at + 32 ≤ length aspects.now }
-    ensures { result ≡ taken (sites_in case.now.tables.sites.now) case.now.act (read_aspect aspects.now at) }
+pub fn taken(aspect: &[u8; 32], case: &Case<'_>) -> [u16; 8]
+    ensures { result ≡ taken (sites_in case.now.tables.sites.now) case.now.act (read_aspect aspect.now 0) }
 {
     let sites = case.tables.sites;
     let act = &case.act;
     let mut vars = [0; 8];
     takes(
         &mut vars,
-        Operand::read(aspects, at + 4),
+        Operand::read(aspect, 4),
         named(sites, act.source),
     );
     takes(
         &mut vars,
-        Operand::read(aspects, at + 8),
+        Operand::read(aspect, 8),
         named(sites, act.target),
     );
-    fields_take(&mut vars, aspects, at + 12, aspects[at + 2], &act.action);
+    fields_take(&mut vars, aspect, &act.action);
     vars
 }

@@ -27,9 +27,5 @@ pub fn fits(action: Action, row: Row) -> bool
 {
     let fields = used(&action.fields, action.count);
     let values = used(&row.fields, row.count);
-    fields.len() == values.len()
-        && fields
-            .iter()
-            .zip(values)
-            .all(|(x, value)| field_fits(*x, *value))
+    fields.len() == values.len() && (0..fields.len()).all(|i| field_fits(fields[i], values[i]))
 }

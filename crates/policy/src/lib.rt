@@ -58,8 +58,12 @@ pub fn permits(tables: &Tables<'_>, aspects: &[u8], act: &Act) -> bool
     if aspects.is_empty() {
         return true;
     }
+    let (nodes, _) = tables.nodes.as_chunks::<24>();
+    let (rows, _) = tables.rows.as_chunks::<10>();
     let case = Case {
         tables: *tables,
+        nodes,
+        rows,
         act: *act,
         terms,
     };

@@ -84,6 +84,7 @@ pub fn terms(x: Site, y: Site) -> [u16; 8]
 fn level(term: Term, terms: &[u16; 8]) -> Level
     ensures { result.code ≡ get_or terms.now (term_number term) 0 }
 {
+    // `as` gives an enum's own place, which no other conversion does
     Level::from(terms[term as usize])
 }
 

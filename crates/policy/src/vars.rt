@@ -11,6 +11,7 @@ use net::{Action, Operand, Row, Tag};
 pub fn assign(vars: &mut [u16; 8], variable: u16, value: u16)
     ensures { vars.new ≡ set vars.old variable value }
 {
+    // tested by hand: the contract of a slice's `get_mut` does not say what the slice holds after a write through the place
     let at = usize::from(variable);
     if at < vars.len() {
         vars[at] = value;

@@ -22,7 +22,7 @@ use Rattle.net.specs.declared.Node.{Node}
 use Rattle.rulebook.specs.declared.nodes.Part.{Part}
 use Rattle.rulebook.specs.declared.nodes.Part.TheVariants.{Condition, Advice, Place, UpTo}
 use Rattle.rulebook.specs.Rulebook.{is_condition, is_advice, has_one, has_two, first_ok, second_ok, asked_ok, depth_of, depths, node_rules, node_ok}
-use Rattle.rulebook.specs.Steps.{first_part, second_part, parts_of, part_depth, shape_ok, depth_at}
+use Rattle.rulebook.specs.Steps.{first_part, second_part, parts_of, part_depth, shape_ok, good_depth}
 
 -- ---- a node in its table, and its kind
 pub node_is : (s : List ℕ) (k : ℕ) → 24 * k + 24 ≤ length s → node_at (nodes_in s) k ≡ read_node s (24 * k)
@@ -70,8 +70,8 @@ module _ (places : List ℕ) (l : List Node) (row : List ℕ) where
 
     -- a node whose kind, a or b is bad has no depth; each other is one deeper than its deeper part, where the rest is good
     module _ (same : x ≡ node_at l (length row)) where
-      pub bad_kind : parts_of x.kind ≡ None → depth_at places l row ≡ None
-      unfolding depth_at shape_ok
+      pub bad_kind : parts_of x.kind ≡ None → good_depth places l row ≡ None
+      unfolding good_depth shape_ok
       bad_kind e = rw (← same, none_of (is_condition x || is_advice x) _ e)
 
       module _ (a b : Part) (of_kind : parts_of x.kind ≡ Some (a, b)) where
@@ -87,17 +87,17 @@ module _ (places : List ℕ) (l : List Node) (row : List ℕ) where
         in_b : part_depth places l row b x.b ≡ cond (second_ok l (length row) x) (Some (cond (has_two x.kind) (get_or row x.b 0) 0)) None
         in_b = ap (λ (p : Part × Part). part_depth places l row p.1 x.b) (sym both) ∙ second_is
 
-        pub bad_first : part_depth places l row a x.a ≡ None → depth_at places l row ≡ None
-        unfolding depth_at shape_ok
+        pub bad_first : part_depth places l row a x.a ≡ None → good_depth places l row ≡ None
+        unfolding good_depth shape_ok
         bad_first e = rw (← same) (simp (none_of (first_ok places l (length row) x) _ (sym in_a ∙ e), and-false))
 
-        pub bad_second : part_depth places l row b x.b ≡ None → depth_at places l row ≡ None
-        unfolding depth_at shape_ok
+        pub bad_second : part_depth places l row b x.b ≡ None → good_depth places l row ≡ None
+        unfolding good_depth shape_ok
         bad_second e = rw (← same) (simp (none_of (second_ok l (length row) x) _ (sym in_b ∙ e), and-false))
 
         module _ (d e : ℕ) (f : part_depth places l row a x.a ≡ Some d) (s : part_depth places l row b x.b ≡ Some e) where
-          good_parts : depth_at places l row ≡ cond (eqb x.zero 0 && (asked_ok x && ltb (max d e) depth_limit)) (Some (1 + max d e)) None
-          unfolding depth_at shape_ok
+          good_parts : good_depth places l row ≡ cond (eqb x.zero 0 && (asked_ok x && ltb (max d e) depth_limit)) (Some (1 + max d e)) None
+          unfolding good_depth shape_ok
           good_parts =
               let p = cond_some (first_ok places l (length row) x) _ d (sym in_a ∙ f) in
               let q = cond_some (second_ok l (length row) x) _ e (sym in_b ∙ s) in
@@ -105,11 +105,11 @@ module _ (places : List ℕ) (l : List Node) (row : List ℕ) where
               (left (is_condition x || is_advice x) (eqb x.zero 0) (first_ok places l (length row) x) (second_ok l (length row) x) (asked_ok x) _ kind_ok p.0 q.0)
 
           pub good_rest : (asked : Bool) (m : ℕ) → asked ≡ asked_ok x → m ≡ max d e → (eqb x.zero 0 && (asked && ltb m depth_limit)) ≡ true
-              → depth_at places l row ≡ Some (1 + m)
+              → good_depth places l row ≡ Some (1 + m)
           good_rest asked m p q t = good_parts ∙ rw (← p, ← q, t)
 
           pub bad_rest : (asked : Bool) (m : ℕ) → asked ≡ asked_ok x → m ≡ max d e → (eqb x.zero 0 && (asked && ltb m depth_limit)) ≡ false
-              → depth_at places l row ≡ None
+              → good_depth places l row ≡ None
           bad_rest asked m p q t = good_parts ∙ rw (← p, ← q, t)
 
 -- ---- whether a node is good
@@ -119,19 +119,19 @@ module _ (places : List ℕ) (l : List Node) (k : ℕ) where
   node-split = all_last (take 5 (node_rules places l k (node_at l k))) (leb (depth_of (node_at l k) (depths l k)) depth_limit)
 
   -- over the row of those before it, it has a depth if it is good, and that one
-  pub depth_is : depth_at places l (depths l k) ≡ cond (node_ok places l k) (Some (depth_of (node_at l k) (depths l k))) None
-  unfolding depth_at
+  pub depth_is : good_depth places l (depths l k) ≡ cond (node_ok places l k) (Some (depth_of (node_at l k) (depths l k))) None
+  unfolding good_depth
   depth_is = rw (length-fill (λ j row. depth_of (node_at l j) row) k, node-split)
 
 -- ---- a loop whose row begins with the depths of the nodes below k, and what it works out of node k
 module _ (places : List ℕ) (l : List Node) (row : List ℕ) (k : ℕ) (e : take k row ≡ depths l k) where
-  worked : depth_at places l (take k row) ≡ cond (node_ok places l k) (Some (depth_of (node_at l k) (depths l k))) None
-  worked = ap (depth_at places l) e ∙ depth_is places l k
+  worked : good_depth places l (take k row) ≡ cond (node_ok places l k) (Some (depth_of (node_at l k) (depths l k))) None
+  worked = ap (good_depth places l) e ∙ depth_is places l k
 
-  pub bad_here : depth_at places l (take k row) ≡ None → node_ok places l k ≡ false
+  pub bad_here : good_depth places l (take k row) ≡ None → node_ok places l k ≡ false
   bad_here n = none_of (node_ok places l k) _ (sym worked ∙ n)
 
-  module _ (x : ℕ) (v : depth_at places l (take k row) ≡ Some x) where
+  module _ (x : ℕ) (v : good_depth places l (take k row) ≡ Some x) where
     pub good_here : node_ok places l k ≡ true
     good_here = (cond_some (node_ok places l k) _ x (sym worked ∙ v)).0
 

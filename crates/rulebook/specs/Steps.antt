@@ -53,8 +53,8 @@ unfoldable pub shape_ok : List ℕ → List Node → ℕ → Node → Bool
 shape_ok places l k x = all_of (take 5 (node_rules places l k x))
 
 -- the depth of the node after a row, where it is good and that depth allowed
-unfoldable pub depth_at : List ℕ → List Node → List ℕ → Option ℕ
-depth_at places l row =
+unfoldable pub good_depth : List ℕ → List Node → List ℕ → Option ℕ
+good_depth places l row =
     let x = node_at l (length row) in
     cond (shape_ok places l (length row) x && leb (depth_of x row) depth_limit) (Some (depth_of x row)) None
 

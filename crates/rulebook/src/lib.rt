@@ -7,5 +7,5 @@ mod nodes;
 mod parts;
 
 pub use aspects::first_bad_aspect;
-pub use nodes::first_bad_node;
+pub use nodes::{Places, first_bad_node};
 pub use parts::{Tags, capability_ok, count_ok, is_alone, once_each, owner_ok, room_ok, speaks_of};

@@ -3,10 +3,10 @@
 ghost use Rattle.std.specs.Prelude.{◌≡◌, ◌&&◌, ℕ, Bool, ◌+◌, ◌*◌, ◌≤◌, length, ltb, leb};
 ghost use Rattle.words.specs.Lists.{first_failing};
 ghost use Rattle.net.specs.Records.{node_width};
-ghost use Rattle.net.specs.Net.{names, Rising, node_at, most_nodes};
+ghost use Rattle.net.specs.Net.{names, place_of, is_there, Rising, node_at, most_nodes};
 ghost use Rattle.net.specs.Image.{sites_in, nodes_in};
 ghost use Rattle.rulebook.specs.Rulebook.{asked_ok, node_ok};
-ghost use Rattle.rulebook.specs.Steps.{parts_of, child_depth, part_depth, depth_at};
+ghost use Rattle.rulebook.specs.Steps.{parts_of, child_depth, part_depth, good_depth};
 
 use crate::parts::{Tags, count_ok};
 use net::{Advice, Condition, Node, count, nth, place_of};
@@ -73,6 +73,22 @@ impl Sort for Advice {
     }
 }
 
+// The sites of an image whose names rise, so that a name is found by halving.
+#[derive(Clone, Copy)]
+pub struct Places<'a> {
+    pub sites: &'a [u8],
+    ghost rising: { Rising (names (sites_in sites.now)) },
+}
+
+impl Places<'_> {
+    // Whether a site has this name.
+    pub fn has(self, name: u16) -> bool
+        ensures { result ≡ is_there (place_of (names (sites_in self.entry.sites.now)) name) }
+    {
+        place_of(self.sites, name).is_some()
+    }
+}
+
 // Whether node j is lower than k and of this sort.
 #[tactic(auto, using(crate::proofs::Depths::kind_is))]
 pub fn below<S: Sort>(nodes: &[u8], k: usize, j: u16) -> bool
@@ -96,14 +112,14 @@ fn child_depth<S: Sort>(nodes: &[u8], row: &[u8], j: u16) -> Option<u8>
 }
 
 // The depth of what stands in this part of the node after the row, 0 of what is no child; none where it is bad.
-fn part_depth(nodes: &[u8], sites: &[u8], row: &[u8], part: Part, v: u16) -> Option<u8>
-    requires { (24 * length row.now ≤ length nodes.now) × Rising (names (sites_in sites.now)) }
-    ensures { result ≡ part_depth (names (sites_in sites.now)) (nodes_in nodes.now) row.now part v }
+fn part_depth(nodes: &[u8], places: Places<'_>, row: &[u8], part: Part, v: u16) -> Option<u8>
+    requires { 24 * length row.now ≤ length nodes.now }
+    ensures { result ≡ part_depth (names (sites_in places.entry.sites.now)) (nodes_in nodes.now) row.now part v }
 {
     match part {
         Part::Condition => child_depth::<Condition>(nodes, row, v),
         Part::Advice => child_depth::<Advice>(nodes, row, v),
-        Part::Place => place_of(sites, v).and(Some(0)),
+        Part::Place => places.has(v).then_some(0),
         Part::UpTo(most) => (v <= most).then_some(0),
     }
 }
@@ -122,14 +138,14 @@ fn asked_ok(x: Node) -> bool
 
 // The depth of the node after the row, which has those of all before it; none where it is bad.
 #[tactic(auto, using(crate::proofs::Depths::node_is, crate::proofs::Depths::good_rest, crate::proofs::Depths::bad_rest))]
-fn depth_at(nodes: &[u8], sites: &[u8], row: &[u8]) -> Option<u8>
-    requires { (24 * length row.now + 24 ≤ length nodes.now) × Rising (names (sites_in sites.now)) }
-    ensures { result ≡ depth_at (names (sites_in sites.now)) (nodes_in nodes.now) row.now }
+fn depth_at(nodes: &[u8], places: Places<'_>, row: &[u8]) -> Option<u8>
+    requires { 24 * length row.now + 24 ≤ length nodes.now }
+    ensures { result ≡ good_depth (names (sites_in places.entry.sites.now)) (nodes_in nodes.now) row.now }
 {
     let x: Node = nth(nodes, row.len());
     let (a, b) = parts(x.kind)?;
-    let first = part_depth(nodes, sites, row, a, x.a)?;
-    let second = part_depth(nodes, sites, row, b, x.b)?;
+    let first = part_depth(nodes, places, row, a, x.a)?;
+    let second = part_depth(nodes, places, row, b, x.b)?;
     let deepest = first.max(second);
     if (x.zero == 0) & (asked_ok(x) & (deepest < DEPTH_LIMIT)) {
         Some(1 + deepest)
@@ -139,13 +155,14 @@ fn depth_at(nodes: &[u8], sites: &[u8], row: &[u8]) -> Option<u8>
 }
 
 // The first bad node.
-pub fn first_bad_node(nodes: &[u8], sites: &[u8]) -> Option<usize>
-    requires { (length nodes.now ≤ node_width * most_nodes) × Rising (names (sites_in sites.now)) }
-    ensures { result ≡ first_failing (node_ok (names (sites_in sites.now)) (nodes_in nodes.now)) (length (nodes_in nodes.now)) }
+pub fn first_bad_node(nodes: &[u8], places: Places<'_>) -> Option<usize>
+    requires { length nodes.now ≤ node_width * most_nodes }
+    ensures { result ≡ first_failing (node_ok (names (sites_in places.entry.sites.now)) (nodes_in nodes.now)) (length (nodes_in nodes.now)) }
 {
+    // The row has room for the most nodes that there can be: memory is fixed, with no heap for a list that grows.
     let mut row = [0u8; MOST_NODES];
     for k in 0..count::<Node>(nodes) {
-        let Some(depth) = depth_at(nodes, sites, &row[..k]) else {
+        let Some(depth) = depth_at(nodes, places, &row[..k]) else {
             return Some(k);
         };
         row[k] = depth;

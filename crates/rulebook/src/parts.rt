@@ -130,7 +130,8 @@ fn owner_before<R: Record>(table: &[u8], k: usize) -> u8
     table[R::WIDTH * (k - 1)]
 }
 
-// Whether record k's owner is a site and not below the owner before it.
+// Whether record k's owner is a site and not below the owner before it. That record k lies in the table is the bound of an index, which a slice's
+// own index asks too: a struct of table and index would only give the pair another name.
 #[tactic(auto, using(crate::proofs::Owners::owner_is))]
 pub fn owner_ok<R: Record>(table: &[u8], sites: usize, k: usize) -> bool
     requires { R.WIDTH * k + R.WIDTH ≤ length table.now }

@@ -20,7 +20,7 @@ const MOST_INPUT: usize = 60000;
 // Room for what any input makes the program print: 4,096 lines of steps and 32 of sites, each number 20 digits wide.
 pub const ROOM: usize = 262144;
 
-// The kinds of the bodies that are printed.
+// The kinds of the bodies that are printed, as numbers: `monitor::body` takes every number.
 const SITES: u16 = 1;
 
 const ROWS: u16 = 5;
@@ -30,6 +30,7 @@ fn step_line(page: &mut Page, index: usize, site: u8, answer: u8)
     requires { page.old.at + 63 ≤ length page.old.bytes.now }
     ensures { Adds (step_line index site answer) page.old page.new }
 {
+    // `as`, since there is no `From` between usize and u64
     page.number(index as u64);
     let numbers = [u64::from(site), u64::from(answer)];
     page.line(b"", &numbers);
@@ -55,6 +56,7 @@ fn site_line(page: &mut Page, site: Site, rows: usize)
         u64::from(site.name),
         u64::from(site.hs),
         u64::from(site.ho),
+        // `as`, since there is no `From` between usize and u64
         rows as u64,
         u64::from(site.lost),
     ];
@@ -81,7 +83,7 @@ fn site_lines(page: &mut Page, sites: &[u8], rows: &[u8])
     }
 }
 
-// Puts a line per site of the net that memory holds.
+// Puts a line per site of the net that memory holds. It is saved into a buffer of a fixed size: the programs have no heap.
 fn net_lines(page: &mut Page, memory: &[u8])
     requires { (holds_net memory.now ≡ true) × (page.old.at + 3520 ≤ length page.old.bytes.now) }
     ensures { Adds (site_lines (state_held memory.now)) page.old page.new }

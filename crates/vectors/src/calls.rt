@@ -3,7 +3,6 @@
 ghost use Rattle.std.specs.Prelude.{◌≤◌, length};
 
 use crate::script::{Script, Stop};
-use monitor::{RunError, SaveError};
 use std::fmt;
 
 // The most answers and the most output bytes.
@@ -94,8 +93,7 @@ pub fn run(rt: &impl Print, script: &mut Script, memory: &mut [u8]) -> Result<()
     let answers = &mut answers[..k];
     let number = match monitor::run(&mut memory[..m], steps, answers) {
         Ok(()) => 0,
-        Err(RunError::Long) => 7,
-        Err(RunError::NoNet) => 6,
+        Err(error) => u8::from(error),
     };
     println!(rt;
         "run {number}{} sum {} memory {}",
@@ -116,8 +114,7 @@ pub fn save(rt: &impl Print, script: &mut Script, memory: &[u8]) -> Result<(), S
     let output = &mut output[..k];
     let (number, length) = match monitor::save(&memory[..m], output) {
         Ok(n) => (0, n),
-        Err(SaveError::NoNet) => (6, 0),
-        Err(SaveError::Room) => (20, 0),
+        Err(error) => (u8::from(error), 0),
     };
     println!(rt; "save {number} {length} sum {}", sum(output))?;
     Ok(())

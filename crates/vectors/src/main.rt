@@ -52,7 +52,7 @@ fn operations(rt: &impl Print, bytes: &[u8]) -> Result<(), Stop> {
     Ok(())
 }
 
-// Runs the script in a file.
+// Runs the script in a file, read into a buffer of a fixed size: the programs have no heap.
 fn file(rt: &(impl Files + Print), path: &[u8]) -> io::Result<()> {
     let mut bytes = [0u8; 262144];
     let n = files::read(rt, path, &mut bytes)?;

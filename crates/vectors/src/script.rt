@@ -1,4 +1,5 @@
-// What is left of a script, from whose front the operations and their arguments are read.
+// What is left of a script, from whose front the operations and their arguments are read. Sizes are made by `as`, since there is no `From` to usize
+// from u32 and u64.
 ghost use Rattle.std.specs.Prelude.{◌≤◌, ◌<◌, length, OnOk, IfOk};
 
 use std::io;

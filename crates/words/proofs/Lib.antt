@@ -4,6 +4,7 @@ pub mod Lists
 pub mod Numbers
 pub mod Splices
 pub mod Shifts
+pub mod Halves
 pub mod Tables
 pub mod Groups
 pub mod Over

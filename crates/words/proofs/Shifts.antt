@@ -1,17 +1,15 @@
 -- What a move and a put make together, and what a slice's method on a part of lent bytes leaves of the whole. Assumes nothing.
 use mathlib.Core.Path.{◌≡◌, refl, sym, ap, ◌∙◌}
-use mathlib.Core.Bool.{◌&&◌, and-true, and_assoc}
-use mathlib.Core.List.{List, [], ◌∷◌, ◌++◌, append_assoc, append-nil}
-use Prim.Native.Nat.{ℕ, zero, suc, ◌+◌, ◌-◌, ◌≤◌}
+use mathlib.Core.Bool.{◌&&◌}
+use mathlib.Core.List.{List, ◌++◌, append_assoc, append-nil}
+use Prim.Native.Nat.{ℕ, ◌+◌, ◌-◌, ◌≤◌}
 use native.Mathlib.Nat.{zero-add}
 use native.Mathlib.Omega.{arith}
 use lib.ListN.{length, get_or, take, drop, length-append, length-drop, length-replicate, take-append-drop}
 use lib.Seq.{take_at, drop_at, take-take, take-append-le, drop-drop, get_or-append-add, get_or-drop, length-take-le, drop-length, take_all}
 use lib.Dec.{eqb}
-use lib.Bits.{bit_or, or_add_and, and_le_r}
-use borrow.Author.Tests.{ne_eqb}
 use borrow.Rule.Slice.PartMut.{put_mid}
-use Rattle.std.specs.List.{fold, copy_within}
+use Rattle.std.specs.List.{copy_within}
 use Rattle.words.proofs.Lists.{all_append}
 use Rattle.words.proofs.Splices.{splice_past, splice_zero}
 use Rattle.words.specs.Bytes.{splice, stretch, blank, inserted, removed, padded, all_zero}
@@ -65,20 +63,6 @@ unfolding splice padded
 pads m b h =
     let n : length b + (length m - length b) ≡ length (b ++ drop (length b) m) = simp (length-append, length-drop) (omega arith) in
     rw (zero-add (length b), length-replicate, n, take_at b (drop (length b) m) (length b) refl, drop-length) (append-nil (b ++ blank (length m - length b)))
-
--- ---- a test of every byte: an or of all of them is 0 exactly if each is
-or_none : (a b : ℕ) → eqb (bit_or a b) 0 ≡ (eqb a 0 && eqb b 0)
-or_none zero b = refl
-or_none (suc a) b =
-    rw (ne_eqb (suc a) 0 (λ e. omega arith)) (ne_eqb (bit_or (suc a) b) 0 (λ e. omega (arith, or_add_and (suc a) b, and_le_r (suc a) b)))
-
-seen : (s : List ℕ) (a : ℕ) → eqb (fold bit_or a s) 0 ≡ (eqb a 0 && all_zero s)
-unfolding all_zero
-seen [] a = sym (and-true (eqb a 0))
-seen (x ∷ s) a = seen s (bit_or a x) ∙ rw (or_none a x, and_assoc)
-
-pub none_seen : (s : List ℕ) → eqb (fold bit_or 0 s) 0 ≡ all_zero s
-none_seen s = seen s 0
 
 -- every byte from `at` on is 0 exactly if each up to `line` is, and each from there on; `n` is how many that are
 pub parted : (s : List ℕ) (at line n : ℕ) → at ≤ line → n ≡ length s - line

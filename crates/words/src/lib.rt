@@ -58,12 +58,20 @@ pub fn clear(mem: &mut [u8], from: usize, to: usize)
     mem[from..to].fill(0);
 }
 
-// Whether every byte is 0. There is no early exit, so that the loop takes many bytes at a time.
-#[tactic(auto, using(crate::proofs::Shifts::none_seen))]
+// Whether every byte is 0. There is no early exit, so that the loop takes many bytes at a time; it reads the two halves side by side, which
+// costs fewer instructions a byte than one stream, as a `fold` over the bytes does.
 pub fn zeros(s: &[u8]) -> bool
     ensures { result ≡ all_zero s.now }
 {
-    s.iter().fold(0, |seen, byte| seen | byte) == 0
+    let half = s.len() / 2;
+    let mut seen = 0;
+    for j in 0..half {
+        seen |= s[j] | s[half + j];
+    }
+    if 2 * half < s.len() {
+        seen |= s[2 * half];
+    }
+    seen == 0
 }
 
 // Whether every byte from byte `at` on is 0. The long part begins at a multiple of 64, so that none of its loads lies across two lines of
@@ -140,6 +148,7 @@ pub fn starts(s: &[u8], w: usize) -> [u16; 33]
     let mut k = 0;
     for (t, start) in starts.iter_mut().enumerate() {
         k = (k..n).find(|&j| t <= usize::from(s[w * j])).unwrap_or(n);
+        // `as`, since by the `requires` there are fewer than 65536
         *start = k as u16;
     }
     starts

@@ -17,11 +17,13 @@ returns-in_err-refuse c =
     rw (p.1, p.2) (simp bad.0 (cc))
 
 pub first_bad_node-requires : goal.first_bad_node-requires
-first_bad_node-requires c =
+first_bad_node-requires c = nodes_few c.args.image.bytes.now c.args.image.in_order c.body-nodes.ensures.result_value
+
+pub invariant_of-first_bad_node : goal.invariant_of-first_bad_node
+invariant_of-first_bad_node c =
     let s = c.args.image.bytes.now in
     let sites = c.body-sites.ensures.result_value in
-    let good = passed _ _ _ (site_is s sites c.first_bad_site.ensures) c.in_ok-refuse.ensures in
-    (nodes_few s c.args.image.in_order c.body-nodes.ensures.result_value, then_rising s sites good)
+    record { rising = then_rising s sites (passed _ _ _ (site_is s sites c.first_bad_site.ensures) c.in_ok-refuse.ensures) }
 
 pub refuse-requires-2-clause-small : goal.refuse-requires-2-clause-small
 refuse-requires-2-clause-small c = small c.args.image.bytes.now c.args.image.in_order read_node node_width 2 _ c.body-nodes.ensures.result_value c.first_bad_node.ensures

@@ -20,7 +20,13 @@ module _ (c : After-grants) where
 
 pub invariant_of-case : goal.invariant_of-case
 invariant_of-case c =
-    record { acting = record { source_there = c.requires.0; target_there = c.requires.1; with_terms = levels (goal.at.invariant_of-case c).After-grants } }
+    let nodes = c.as_chunks.ensures in
+    let rows = c.as_chunks-2.ensures in
+    record {
+      nodes_divided = record { parts = nodes.front; many = nodes.front_len };
+      rows_divided = record { parts = rows.front; many = rows.front_len };
+      acting = record { source_there = c.requires.0; target_there = c.requires.1; with_terms = levels (goal.at.invariant_of-case c).After-grants };
+    }
 
 pub returns-then-not-grants : goal.returns-then-not-grants
 returns-then-not-grants c = judged _ _ _ _ (sym (ruled (goal.at.returns-then-not-grants c).After-grants) ∙ c.if-not-grants.true) refl refl

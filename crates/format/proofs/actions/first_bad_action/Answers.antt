@@ -68,13 +68,13 @@ returns-then-not-good c =
     stopped read_action action_width s (action_ok c.args.sites (actions_in s)) l.k _ c.count-k-end.ensures l.invariant.good (so e c.if-not-good.true) (omega arith)
 
 -- action k is good where the loop goes on
-pub bound_too-bound-requires : goal.bound_too-bound-requires
-bound_too-bound-requires c =
+pub invariant_of-bound_too : goal.invariant_of-bound_too
+invariant_of-bound_too c =
     let s = c.args.actions.now in
     let l = c.loop-k in
     let e = tested s c.args.sites l.k l.last l.bound l.invariant (omega arith) c.nth-x.ensures c.bound_for-earlier.ensures (both c.place_ok.ensures c.form_ok.ensures) in
     let x = c.nth-x in
-    fields-ranged x.result (good s c.args.sites l.k l.last l.bound l.invariant (omega arith) (so e c.if-not-good.false) x.ensures) 2 (omega arith) (omega arith)
+    record { ranged = fields-ranged x.result (good s c.args.sites l.k l.last l.bound l.invariant (omega arith) (so e c.if-not-good.false) x.ensures) }
 
 pub loop-k-preserved : goal.loop-k-preserved
 loop-k-preserved c =

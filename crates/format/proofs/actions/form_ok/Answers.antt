@@ -11,14 +11,11 @@ use Rattle.format.proofs.Binding.{operand_ranged, fields-ranged, fields_parts}
 use Rattle.format.proofs.actions.form_ok.Goals as goal
 
 -- the operands are good where their variables are looked at
-pub parts_ok-requires : goal.parts_ok-requires
-parts_ok-requires c =
-    let x = c.args.x in
-    let good = is_T _ (so c.fields_ok.ensures c.if-fields_ok.true) in (
-      operand_ranged 1 (omega arith) (omega arith) (tags_of false false false) x.target (is_T _ (so c.allow.ensures c.if-allow.true)),
-      fields-ranged x good 1 (omega arith) (omega arith),
-      fields-ranged x good 2 (omega arith) (omega arith),
-    )
+pub ok-requires : goal.ok-requires
+ok-requires c = operand_ranged 1 (omega arith) (omega arith) (tags_of false false false) c.args.x.target (is_T _ (so c.allow.ensures c.if-allow.true))
+
+pub invariant_of-ok : goal.invariant_of-ok
+invariant_of-ok c = record { ranged = fields-ranged c.args.x (is_T _ (so c.fields_ok.ensures c.if-fields_ok.true)) }
 
 pub returns-then-fields_ok : goal.returns-then-fields_ok
 returns-then-fields_ok c =
@@ -30,4 +27,4 @@ returns-then-fields_ok c =
     (on c.count_ok.ensures c.if-count_ok.true
     (on c.allow.ensures c.if-allow.true
     (on c.fields_ok.ensures c.if-fields_ok.true
-    (last (c.parts_ok.ensures ∙ fields_parts x good c.args.bound x.target)))))))
+    (last (c.ok.ensures ∙ fields_parts x good c.args.bound x.target)))))))

@@ -1,11 +1,13 @@
 -- `policy::fits` meets its contract: as many fields as values, and each pair is tried. Assumes nothing.
-use Rattle.std.proofs.Common.{rules, ◌||◌, eqb, sym, ◌∙◌, tests}
+use lib.Seq.{take-length}
+use Rattle.std.proofs.Common.{rules, ◌≡◌, ◌||◌, eqb, length, get_or, refl, sym, ◌∙◌, tests, arith}
 use borrow.Author.Tests.{ne_eqb}
-use Rattle.std.proofs.lemmas.Iterator.{YieldsList-from_slice, YieldsList-from_zip}
+use Rattle.std.proofs.lemmas.Iterator.{YieldsList-from_range}
 use Rattle.std.proofs.lemmas.Iterator.Search.{all_from_yields_List}
+use Rattle.net.specs.Records.{no_operand}
 use Rattle.net.specs.Net.{is_binding, fields_of, values_of}
 use Rattle.policy.specs.Match.{fits}
-use Rattle.policy.proofs.Places.{zip_fits, fit_lengths}
+use Rattle.policy.proofs.Places.{range_fits, fit_lengths}
 use Rattle.policy.proofs.fields.fits.Goals as goal
 
 pub returns-then-fields-values : goal.returns-then-fields-values
@@ -13,9 +15,11 @@ unfolding fits
 returns-then-fields-values c =
     let l = fields_of c.args.action in
     let m = values_of c.args.row in
-    all_from_yields_List (λ p. is_binding p.0 || eqb p.0.value p.1) c.all.new.self _ _ c.all.ensures.ran
-    (YieldsList-from_zip (YieldsList-from_slice l cc) (YieldsList-from_slice m cc)) (λ x b q k. search (rules, tests))
-    ∙ zip_fits _ l m (cc)
+    let n : length l ≡ length m = search rules in
+    all_from_yields_List (λ i. is_binding (get_or l i no_operand) || eqb (get_or l i no_operand).value (get_or m i 0)) c.all.new.self _ _ c.all.ensures.ran
+    (YieldsList-from_range 0 (length l) (length l) (cc) (omega arith)) (λ x b q k. search (rules, tests))
+    ∙ range_fits (λ x v. is_binding x || eqb x.value v) no_operand 0 l m _ (λ i h k. refl) 0 (length l) (λ i h. (omega arith, omega arith))
+    ∙ rw (take-length l, n, take-length m)
 
 pub returns-else-fields-values : goal.returns-else-fields-values
 unfolding fits

@@ -14,4 +14,4 @@ returns g c =
     let b : c.count_below-2.result ≡ count_below s w n (t + 1) = rw (c.WIDTH-2.ensures, c.count-n.ensures) at c.count_below-2.ensures.0 in
     let o = owned_inside (λ l i. get_or l i 0) (λ v. v) 0 (λ l i. refl) w s c.requires.2 t in
     let e : c.count_below.result + (c.count_below-2.result - c.count_below.result) ≡ c.count_below-2.result = omega arith in
-    record { start = a; end = e ∙ b; inside = rw e (rw b o.1) }
+    record { grouped = record { start = a; end = e ∙ b; inside = rw e (rw b o.1) }; ordered = omega arith }

@@ -18,4 +18,4 @@ returns c =
     let e = start_is p t (omega arith) in
     let f = start_is p (t + 1) (omega arith) in
     let o = owned_inside read_row (λ r. r.owner) no_row row_owner row_width c.args.tables.now.rows.now p.ordered t in
-    record { start = omega arith; end = omega arith; inside = omega arith }
+    record { grouped = record { start = omega arith; end = omega arith; inside = omega arith }; ordered = omega arith }

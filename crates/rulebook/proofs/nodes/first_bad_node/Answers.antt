@@ -17,7 +17,7 @@ loop-k-init c = record { good = first_none _; long = refl; row_is = refl }
 
 pub returns-in_default : goal.returns-in_default
 returns-in_default c =
-    let places = names (sites_in c.args.sites.now) in
+    let places = names (sites_in c.args.places.sites.now) in
     let nodes = nodes_in c.args.nodes.now in
     let l = c.loop-k in
     let n = table_length read_node node_width c.args.nodes.now in
@@ -26,7 +26,7 @@ returns-in_default c =
 
 pub loop-k-preserved : goal.loop-k-preserved
 loop-k-preserved c =
-    let places = names (sites_in c.args.sites.now) in
+    let places = names (sites_in c.args.places.sites.now) in
     let nodes = nodes_in c.args.nodes.now in
     let l = c.loop-k in
     let v = sym c.depth_at.ensures ∙ c.in-Some.is in record {

@@ -8,7 +8,7 @@ use Rattle.rulebook.proofs.nodes.first_bad_node.Given as goal
 
 abbrev pub invariant-loop-k : goal.invariant-loop-k
 invariant-loop-k l = record {
-  good : first_bad (node_ok (names (sites_in l.sites)) (nodes_in l.nodes)) l.k ≡ l.k;
+  good : first_bad (node_ok (names (sites_in l.places.sites.now)) (nodes_in l.nodes)) l.k ≡ l.k;
   long : length l.row ≡ 1024;
   row_is : take l.k l.row ≡ depths (nodes_in l.nodes) l.k;
 }

@@ -41,9 +41,9 @@ module _ (s : List ℕ) (from j : ℕ) (h : action_width * (from + j) + action_w
 pub loop-j-init : goal.loop-j-init
 loop-j-init c = sym bound_none
 
-pub bound_too-bound-requires : goal.bound_too-bound-requires
-bound_too-bound-requires c =
-    fields-ranged c.nth.result (good c.args.self.actions.now c.args.from c.loop-j.j (omega arith) c.args.self.good c.nth.ensures) 2 (omega arith) (omega arith)
+pub invariant_of-bound_too : goal.invariant_of-bound_too
+invariant_of-bound_too c =
+    record { ranged = fields-ranged c.nth.result (good c.args.self.actions.now c.args.from c.loop-j.j (omega arith) c.args.self.good c.nth.ensures) }
 
 pub loop-j-preserved : goal.loop-j-preserved
 loop-j-preserved c = next c.args.self.actions.now c.args.from c.loop-j.j (omega arith) c.args.self.good c.loop-j.invariant c.nth.ensures c.bound_too-bound.ensures

@@ -20,22 +20,25 @@ use Rattle.monitor.proofs.ask.Net.ask.Goals as goal
 -- there is such a site, and its next action has been looked for
 module _ (image : List ℕ) (i : ℕ) {sites actions : List ℕ} {site : Site} {f : Option ℕ} (ok : verdict_of image ≡ Ok tt)
     (e₁ : sites ≡ body_in image 1) (h : i < length sites / 32) (e : site ≡ read_site sites (32 * i)) (e₄ : actions ≡ body_in image 4)
-    (n : f ≡ next_in actions i site.position) where
+    (n : f ≡ next_in (body_in image 4) i site.position) where
+  n₄ : f ≡ next_in actions i site.position
+  n₄ = rw e₄ n
+
   inside : i < length (state_in image).sites
   inside = rw (table_length read_site site_width (body_in image 1), ← e₁) h
 
   done : f ≡ None → refuse Done ≡ asking (rules_in image) (state_in image) i
-  done = asked_done image i inside (accepted_actions image ok) (site_read image i site e₁ e inside) e₄ n
+  done = asked_done image i inside (accepted_actions image ok) (site_read image i site e₁ e inside) e₄ n₄
 
   within : {k : ℕ} → f ≡ Some k → k < length actions / 24
-  within = next-inside image i inside (accepted_actions image ok) (site_read image i site e₁ e inside) e₄ n
+  within = next-inside image i inside (accepted_actions image ok) (site_read image i site e₁ e inside) e₄ n₄
 
   -- by the place of the target
   module _ {k : ℕ} (q : f ≡ Some k) {x a : Action} (r : x ≡ read_action actions (24 * k)) (w : a ≡ resolved_action site.vars x) {p : Option ℕ}
       (v : p ≡ place_of (names (sites_in sites)) a.target.value) where
     goes : (y : Result Grant Answer) → plan_of y ≡ planned (rules_in image) (state_in image) (toward i a (place_of (names (state_in image).sites) a.target.value))
         → plan_of y ≡ asking (rules_in image) (state_in image) i
-    goes y = asked-next image i inside (accepted_actions image ok) (site_read image i site e₁ e inside) e₄ n q y a (w ∙ ap (resolved_action site.vars) r)
+    goes y = asked-next image i inside (accepted_actions image ok) (site_read image i site e₁ e inside) e₄ n₄ q y a (w ∙ ap (resolved_action site.vars) r)
 
     nowhere : p ≡ None → refuse NoPlace ≡ asking (rules_in image) (state_in image) i
     nowhere z = goes (Err NoPlace) (placed_none image i a e₁ v z)
@@ -47,48 +50,45 @@ module _ (image : List ℕ) (i : ℕ) {sites actions : List ℕ} {site : Site} {
 pub returns-then-count-i : goal.returns-then-count-i
 returns-then-count-i c =
     let b = c.args.self.now.image.bytes.now in
-    asked_no_site b c.args.i (rw (table_length read_site site_width (body_in b 1), ← c.body-sites.ensures.result_value, ← c.count.ensures) c.if-count-i.true)
-
-pub next_of-requires : goal.next_of-requires
-next_of-requires c = rw c.body-actions.ensures.result_value (accepted_actions c.args.self.now.image.bytes.now c.args.self.now.accepted)
+    asked_no_site b c.args.i (rw (table_length read_site site_width (body_in b 1), ← c.body-sites.ensures, ← c.count.ensures) c.if-count-i.true)
 
 pub returns-in_err-k : goal.returns-in_err-k
 returns-in_err-k c =
     let a : c.from_residual.result ≡ Err Done = search rules in
     let b : c.next_of.result ≡ None = search rules in
     rw a
-    (done c.args.self.now.image.bytes.now c.args.i c.args.self.now.accepted c.body-sites.ensures.result_value (rw c.count.ensures at c.if-count-i.false) c.nth-site.ensures
-    c.body-actions.ensures.result_value c.next_of.ensures b)
+    (done c.args.self.now.image.bytes.now c.args.i c.args.self.now.image.accepted c.body-sites.ensures (rw c.count.ensures at c.if-count-i.false) c.nth-site.ensures
+    c.body-actions.ensures c.next_of.ensures b)
 
 pub nth-requires : goal.nth-requires
 nth-requires c =
     let b : c.next_of.result ≡ Some c.in_ok-k.k = search rules in
     let h =
-    within c.args.self.now.image.bytes.now c.args.i c.args.self.now.accepted c.body-sites.ensures.result_value (rw c.count.ensures at c.if-count-i.false) c.nth-site.ensures
-    c.body-actions.ensures.result_value c.next_of.ensures b in
+    within c.args.self.now.image.bytes.now c.args.i c.args.self.now.image.accepted c.body-sites.ensures (rw c.count.ensures at c.if-count-i.false) c.nth-site.ensures
+    c.body-actions.ensures c.next_of.ensures b in
     omega arith
 
 pub place_of-requires : goal.place_of-requires
-place_of-requires c = rw c.body-sites.ensures.result_value (accepted_names c.args.self.now.image.bytes.now c.args.self.now.accepted)
+place_of-requires c = rw c.body-sites.ensures (accepted_names c.args.self.now.image.bytes.now c.args.self.now.image.accepted)
 
 pub returns-in_default : goal.returns-in_default
 returns-in_default c =
     let b : c.next_of.result ≡ Some c.in_ok-k.k = search rules in
     let z : c.place_of.result ≡ None = search rules in
-    nowhere c.args.self.now.image.bytes.now c.args.i c.args.self.now.accepted c.body-sites.ensures.result_value (rw c.count.ensures at c.if-count-i.false) c.nth-site.ensures
-    c.body-actions.ensures.result_value c.next_of.ensures b c.nth.ensures c.resolved_action-action.ensures c.place_of.ensures z
+    nowhere c.args.self.now.image.bytes.now c.args.i c.args.self.now.image.accepted c.body-sites.ensures (rw c.count.ensures at c.if-count-i.false) c.nth-site.ensures
+    c.body-actions.ensures c.next_of.ensures b c.nth.ensures c.resolved_action-action.ensures c.place_of.ensures z
 
 pub judged-requires : goal.judged-requires
 judged-requires c =
     let z : c.place_of.result ≡ Some c.in-Some.target = search rules in (
-      inside c.args.self.now.image.bytes.now c.args.i c.args.self.now.accepted c.body-sites.ensures.result_value (rw c.count.ensures at c.if-count-i.false) c.nth-site.ensures
-          c.body-actions.ensures.result_value c.next_of.ensures,
-      placed_inside c.args.self.now.image.bytes.now c.resolved_action-action.result c.body-sites.ensures.result_value c.place_of.ensures c.in-Some.target z,
+      inside c.args.self.now.image.bytes.now c.args.i c.args.self.now.image.accepted c.body-sites.ensures (rw c.count.ensures at c.if-count-i.false) c.nth-site.ensures
+          c.body-actions.ensures c.next_of.ensures,
+      placed_inside c.args.self.now.image.bytes.now c.resolved_action-action.result c.body-sites.ensures c.place_of.ensures c.in-Some.target z,
     )
 
 pub returns : goal.returns
 returns c =
     let b : c.next_of.result ≡ Some c.in_ok-k.k = search rules in
     let z : c.place_of.result ≡ Some c.in-Some.target = search rules in
-    somewhere c.args.self.now.image.bytes.now c.args.i c.args.self.now.accepted c.body-sites.ensures.result_value (rw c.count.ensures at c.if-count-i.false) c.nth-site.ensures
-    c.body-actions.ensures.result_value c.next_of.ensures b c.nth.ensures c.resolved_action-action.ensures c.place_of.ensures c.in-Some.target z c.judged.result c.judged.ensures
+    somewhere c.args.self.now.image.bytes.now c.args.i c.args.self.now.image.accepted c.body-sites.ensures (rw c.count.ensures at c.if-count-i.false) c.nth-site.ensures
+    c.body-actions.ensures c.next_of.ensures b c.nth.ensures c.resolved_action-action.ensures c.place_of.ensures c.in-Some.target z c.judged.result c.judged.ensures

@@ -13,10 +13,10 @@ invariant_of-tables c =
     let b = net.image.bytes.now in
     let l = table_length read_site site_width (body_in b 1) in
     record {
-      placed = rw (c.body-2.ensures.result_value, c.body-3.ensures.result_value) (record {
-        rising = accepted_names b net.accepted;
-        few = omega (arith, l, most_sites_lem b net.accepted);
-        ordered = accepted_rows b net.accepted;
+      placed = rw (c.body-2.ensures, c.body-3.ensures) (record {
+        rising = accepted_names b net.image.accepted;
+        few = omega (arith, l, most_sites_lem b net.image.accepted);
+        ordered = accepted_rows b net.image.accepted;
         started = net.started;
       });
     }
@@ -25,9 +25,9 @@ pub permits-passes-requires : goal.permits-passes-requires
 permits-passes-requires c =
     let net = c.args.self.now in
     let b = net.image.bytes.now in
-    let p = c.body-2.ensures.result_value in
+    let p = c.body-2.ensures in
     let l = table_length read_site site_width (body_in b 1) in
-    (rw p (omega (arith, l, c.requires.0)), rw p (omega (arith, l, c.requires.1)), rw c.body-4.ensures.result_value (accepted_aspects b net.accepted))
+    (rw p (omega (arith, l, c.requires.0)), rw p (omega (arith, l, c.requires.1)), rw c.body-4.ensures (accepted_aspects b net.image.accepted))
 
 pub allowed-requires : goal.allowed-requires
-allowed-requires c = few-sites c.args.self.now.image.bytes.now c.args.self.now.accepted c.requires.1
+allowed-requires c = few-sites c.args.self.now.image.bytes.now c.args.self.now.image.accepted c.requires.1

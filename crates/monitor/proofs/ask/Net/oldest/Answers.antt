@@ -1,4 +1,4 @@
--- `monitor::ask::oldest` meets its contract: the target's rows stand from where they begin up to where they end, so that the first of these that
+-- `monitor::ask::Net::oldest` meets its contract: the target's rows stand from where they begin up to where they end, so that the first of these that
 -- fits is the first of all that hits. Assumes nothing.
 use Rattle.std.specs.Prelude.{MatchOption}
 use Rattle.std.proofs.Common.{rules, ◌≡◌, refl, sym, ap, ◌∙◌, ℕ, ◌+◌, ◌*◌, ◌/◌, ◌≤◌, ◌<◌, Bool, true, false, not, ◌&&◌, List, ltb, eqb, length, get_or, arith, Option, None, Some}
@@ -13,11 +13,12 @@ use Rattle.net.specs.Records.{row_width, no_row, read_row}
 use Rattle.net.specs.Net.{row_at, fields_of, values_of}
 use Rattle.net.specs.Image.{rows_in}
 use Rattle.net.specs.declared.Action.{Action}
+use Rattle.format.proofs.Ordered.{accepted_rows}
 use Rattle.policy.specs.Match.{fits}
 use Rattle.stepping.specs.Step.{hits, oldest}
 use Rattle.monitor.proofs.Stretches.{row-front, begins-ends, ends_within, owner_back, owner_on}
 use Rattle.monitor.proofs.Starts.{starts_begin, starts_end}
-use Rattle.monitor.proofs.ask.oldest.Goals as goal
+use Rattle.monitor.proofs.ask.Net.oldest.Goals as goal
 
 module _ (s : List ℕ) (order : Ordered row_width s) (t : ℕ) (x : Action) where
   abbrev begins : ℕ
@@ -88,20 +89,25 @@ module _ (rows : List ℕ) {starts : List ℕ} (t : ℕ) (x : Action) (h : t < 3
 
 pub find-requires-clause-callable : goal.find-requires-clause-callable
 find-requires-clause-callable c =
-    let s = c.args.rows.now in
+    let net = c.args.self.now in
     let act = c.args.act.now in
-    let r = c.requires in
+    let s = c.body-rows.result.now in
+    let order : Ordered row_width s = rw c.body-rows.ensures (accepted_rows net.image.bytes.now net.image.accepted) in
+    let e : net.starts.now ≡ starts_of row_width s = rw c.body-rows.ensures net.started in
     let inside : (k : ℕ) → k < c.from-end.result → 10 * k + 10 ≤ length s =
-    λ k h. let w = within s r.1 act.target act.action k (rw (← to s act.target act.action r.0 r.1 r.2 c.from-end.ensures) h) in omega arith in
+    λ k h. let w = within s order act.target act.action k (rw (← to s act.target act.action c.requires order e c.from-end.ensures) h) in omega arith in
     serves_from_Range (λ x q k. search rules) (λ x l h. let w = inside x h in search rules)
 
 pub returns : goal.returns
 returns c =
-    let s = c.args.rows.now in
+    let net = c.args.self.now in
     let act = c.args.act.now in
-    let r = c.requires in
-    let Yes : ℕ → Type 0 = Fit s r.1 act.target act.action true in
-    let No : ℕ → Type 0 = Fit s r.1 act.target act.action false in
+    let s = c.body-rows.result.now in
+    let order : Ordered row_width s = rw c.body-rows.ensures (accepted_rows net.image.bytes.now net.image.accepted) in
+    let e : net.starts.now ≡ starts_of row_width s = rw c.body-rows.ensures net.started in
+    let Yes : ℕ → Type 0 = Fit s order act.target act.action true in
+    let No : ℕ → Type 0 = Fit s order act.target act.action false in
     let m = first_from_Range _ _ _ c.find.result Yes No c.find.ensures.ran (λ x q k. search (rules, tests)) (λ x q k. search (rules, tests)) in
-    chosen-is s r.1 act.target act.action c.find.result
-    (rw (← from s act.target act.action r.0 r.1 r.2 c.from-start.ensures, ← to s act.target act.action r.0 r.1 r.2 c.from-end.ensures) m)
+    rw (← c.body-rows.ensures) (
+    chosen-is s order act.target act.action c.find.result
+    (rw (← from s act.target act.action c.requires order e c.from-start.ensures, ← to s act.target act.action c.requires order e c.from-end.ensures) m))

@@ -1,6 +1,6 @@
--- `monitor::ask::next_of` meets its contract: the action p past the first of site i is i's exactly if i has more than p. Assumes nothing.
+-- `monitor::ask::Net::next_of` meets its contract: the action p past the first of site i is i's exactly if i has more than p. Assumes nothing.
 use Rattle.std.specs.Bool.{then_some}
-use Rattle.std.proofs.Common.{◌≡◌, sym, ap, ◌∙◌, ℕ, Bool, true, false, cond, ◌+◌, ◌-◌, ◌*◌, ◌/◌, ◌≤◌, ◌<◌, List, ltb, eqb, length, get_or, arith, None, Option, Some}
+use Rattle.std.proofs.Common.{rules, ◌≡◌, sym, ap, ◌∙◌, ℕ, Bool, true, false, cond, ◌+◌, ◌-◌, ◌*◌, ◌/◌, ◌≤◌, ◌<◌, List, ltb, eqb, length, get_or, arith, None, Option, Some}
 use borrow.Author.Tests.{le-ltb}
 use lib.Dec.{ltb→lt, lt→ltb}
 use Rattle.words.specs.Tables.{Ordered, count_below}
@@ -8,10 +8,11 @@ use Rattle.words.proofs.Truth.{same_truth}
 use Rattle.net.specs.Records.{action_width, no_action, read_action}
 use Rattle.net.specs.Net.{program}
 use Rattle.net.specs.Image.{actions_in}
+use Rattle.format.proofs.Ordered.{accepted_actions}
 use Rattle.monitor.specs.Plan.{next_in}
 use Rattle.monitor.proofs.Stretches.{action_front, ends_within, owner_on, owned_length}
-use Rattle.monitor.proofs.ask.next_of.Goals as goal
-use Rattle.monitor.proofs.ask.next_of.Goals.{then-k-n, else-k-n}
+use Rattle.monitor.proofs.ask.Net.next_of.Goals as goal
+use Rattle.monitor.proofs.ask.Net.next_of.Goals.{then-k-n, else-k-n}
 
 module _ (b : List ℕ) (order : Ordered action_width b) (i p : ℕ) {first : ℕ} (e : first ≡ count_below b 24 (length b / 24) i) where
   abbrev begins : ℕ
@@ -41,16 +42,21 @@ module _ (b : List ℕ) (order : Ordered action_width b) (i p : ℕ) {first : �
       pick true w = rw (← w)
       pick false w = rw (← w)
 
+pub count_below-requires : goal.count_below-requires
+count_below-requires c = let o = accepted_actions c.args.self.now.image.bytes.now c.args.self.now.image.accepted in search (rules, o)
+
 pub returns : goal.returns
 returns c =
-    let b = c.args.actions.now in
+    let b = c.body-actions.result in
     let i = c.args.i in
     let p = c.args.p in
-    let e : c.count_below.result ≡ count_below b 24 (length b / 24) i = rw c.count-n.ensures at c.count_below.ensures.0 in
+    let order : Ordered action_width b.now = rw c.body-actions.ensures (accepted_actions c.args.self.now.image.bytes.now c.args.self.now.image.accepted) in
+    let e : c.count_below.result ≡ count_below b.now 24 (length b.now / 24) i = rw c.count-n.ensures at c.count_below.ensures.0 in
     let s = rw c.from.ensures at c.then_some.ensures in
-    next b c.requires i p e
+    rw (← c.body-actions.ensures) (
+    next b.now order i p e
     (elim c.if-k-n.branch [
-      | then-k-n w ↦ w.then_some-is ∙ rw (w.from-then-k-n.ensures, c.from.ensures) (sym (by-owner b c.requires i p e (rw (c.from.ensures, c.count-n.ensures) at w.if-k-n.true)))
-      | else-k-n w ↦ w.then_some-is ∙ le-ltb _ _ w.if-k-n.false ∙ sym (past b c.requires i p e (rw (c.from.ensures, c.count-n.ensures) at w.if-k-n.false))
+      | then-k-n w ↦ w.then_some-is ∙ rw (w.from-then-k-n.ensures, c.from.ensures) (sym (by-owner b.now order i p e (rw (c.from.ensures, c.count-n.ensures) at w.if-k-n.true)))
+      | else-k-n w ↦ w.then_some-is ∙ le-ltb _ _ w.if-k-n.false ∙ sym (past b.now order i p e (rw (c.from.ensures, c.count-n.ensures) at w.if-k-n.false))
     ])
-    s
+    s)

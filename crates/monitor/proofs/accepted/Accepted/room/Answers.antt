@@ -1,5 +1,5 @@
--- `monitor::act::room_of` meets its contract: site t holds 16 rows or more exactly if the row 16 before the end of its rows is its own. Assumes nothing.
-use Rattle.std.proofs.Common.{◌≡◌, sym, ◌∙◌, true, false, not, List, ℕ, ◌+◌, ◌-◌, ◌*◌, ◌/◌, ◌≤◌, ◌<◌, length, get_or, arith, ltb, leb, eqb, ltb→lt, lt→ltb, lt-ltb, eq-eqb, ne_eqb, None, Some}
+-- `monitor::accepted::Accepted::room` meets its contract: site t holds 16 rows or more exactly if the row 16 before the end of its rows is its own. Assumes nothing.
+use Rattle.std.proofs.Common.{rules, ◌≡◌, sym, ◌∙◌, true, false, not, List, ℕ, ◌+◌, ◌-◌, ◌*◌, ◌/◌, ◌≤◌, ◌<◌, length, get_or, arith, ltb, leb, eqb, ltb→lt, lt→ltb, lt-ltb, eq-eqb, ne_eqb, None, Some}
 use borrow.Author.Tests.{lt-leb}
 use lib.Dec.{nleb→lt}
 use Rattle.words.specs.Tables.{Ordered, count_below}
@@ -8,9 +8,11 @@ use Rattle.net.specs.Records.{row_width, no_row, read_row}
 use Rattle.net.specs.Net.{held, store_limit}
 use Rattle.net.specs.Image.{rows_in}
 use Rattle.stepping.specs.Step.{place_for}
+use Rattle.format.proofs.Ordered.{accepted_rows}
 use Rattle.monitor.specs.Plan.{room_in}
+use Rattle.monitor.proofs.Asking.{few-sites}
 use Rattle.monitor.proofs.Stretches.{row-front, owner_back, owned_count, place_ends}
-use Rattle.monitor.proofs.act.room_of.Goals as goal
+use Rattle.monitor.proofs.accepted.Accepted.room.Goals as goal
 
 -- what the search found in the part r, said of the body b that it is
 module _ {r b : List ℕ} {end : ℕ} (t : ℕ) (is : r ≡ b) (order : Ordered row_width b) (e : end ≡ count_below r 10 (length r / 10) (t + 1)) where
@@ -49,14 +51,20 @@ module _ {r b : List ℕ} {end : ℕ} (t : ℕ) (is : r ≡ b) (order : Ordered 
 
 pub returns-then-from-t : goal.returns-then-from-t
 returns-then-from-t c =
-    full c.args.t c.body-rows.ensures.result_value c.requires.1 (rw c.count.ensures at c.count_below-end.ensures.0) c.if-end-ge-STORE_LIMIT.true
+    full c.args.t c.body-rows.ensures (accepted_rows c.args.self.bytes.now c.args.self.accepted) (rw c.count.ensures at c.count_below-end.ensures.0) c.if-end-ge-STORE_LIMIT.true
     (sym c.from.ensures ∙ c.if-from-t.true)
 
 pub returns-else-from-t : goal.returns-else-from-t
 returns-else-from-t c =
-    other c.args.t c.body-rows.ensures.result_value c.requires.1 (rw c.count.ensures at c.count_below-end.ensures.0) c.if-end-ge-STORE_LIMIT.true
+    other c.args.t c.body-rows.ensures (accepted_rows c.args.self.bytes.now c.args.self.accepted) (rw c.count.ensures at c.count_below-end.ensures.0) c.if-end-ge-STORE_LIMIT.true
     (λ q. c.if-from-t.false (c.from.ensures ∙ q))
 
 pub returns-else-end-ge-STORE_LIMIT : goal.returns-else-end-ge-STORE_LIMIT
 returns-else-end-ge-STORE_LIMIT c =
-    few c.args.t c.body-rows.ensures.result_value c.requires.1 (rw c.count.ensures at c.count_below-end.ensures.0) c.if-end-ge-STORE_LIMIT.false
+    few c.args.t c.body-rows.ensures (accepted_rows c.args.self.bytes.now c.args.self.accepted) (rw c.count.ensures at c.count_below-end.ensures.0) c.if-end-ge-STORE_LIMIT.false
+
+pub overflow_add-t : goal.overflow_add-t
+overflow_add-t c = omega (arith, few-sites c.args.self.bytes.now c.args.self.accepted c.requires)
+
+pub count_below-end-requires : goal.count_below-end-requires
+count_below-end-requires c = search (rules, accepted_rows c.args.self.bytes.now c.args.self.accepted)
