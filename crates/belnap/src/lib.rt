@@ -6,8 +6,8 @@ ghost use Rattle.std.specs.Prelude.{◌≡◌, ◌<◌};
 ghost use Rattle.belnap.specs.Belnap.{grants, not_of, operate_of, settles};
 ghost use Rattle.belnap.specs.Operator.{place};
 
-// The codes of the four values. They stay numbers, as docs/DECISIONS.md has them: `settles` and `grants` answer for every u8, and an enum
-// would take only four of them.
+// The codes of the four values. They stay numbers: `settles` and `grants` answer for every u8, and an enum would take only four of
+// them.
 pub const UNDECIDED: u8 = 0;
 
 pub const YES: u8 = 1;

@@ -32,7 +32,7 @@ pub fn fill<R: Read>(input: &mut R, out: &mut [u8]) -> Result<usize>
 
 // Reads a file into the front of lent bytes, as much as they hold, and answers how many it read: 0 where it cannot be opened, as where the path
 // is not text in UTF-8. Its errors are those of the reads; after one, the file is closed and the front of the bytes may have been written.
-// That 0 is promised here, so it is no `Option`: a program takes a file that is not there for an empty one.
+// That 0 is promised here, so it is no `Option`: the programs go on from a path that cannot be opened as from an empty input.
 pub fn read(files: &impl Files, path: &[u8], out: &mut [u8]) -> Result<usize>
     ensures prefix_len { IfOk result (λ n. IsPrefixLen n out.new) }
     ensures err { OnErr result (length out.new ≡ length out.old) }

@@ -45,7 +45,7 @@ fn form_ok(bound: u8, x: Action) -> bool
                     && (fields_ok(x) && GoodFields { fields }.ok(bound, x.target)))))
 }
 
-// The first bad action of a net of so many sites.
+// The first bad action of a net of so many sites. Nothing is bound before the first, so it needs no case of its own, whatever its owner.
 pub fn first_bad_action(actions: &[u8], sites: usize) -> Option<usize>
     ensures { result ≡ first_failing (action_ok sites (actions_in actions.now)) (length (actions_in actions.now)) }
 {

@@ -179,7 +179,7 @@ impl Header<'_> {
             & ((kind.least() <= n) & ((n <= kind.most()) & (self.offset(kind) == self.start(kind))))
     }
 
-    // Whether the contents are in order: five entries that are right, and the image ends with the last body.
+    // Whether the contents are in order: five entries that are right, and the image ends with the last body. The five by name, as the definition has them.
     #[tactic(auto, unfolding(net::specs::Image::contents_ok))]
     fn contents_ok(self) -> bool
         ensures { result ≡ contents_ok self.entry.bytes.now }
@@ -201,7 +201,7 @@ pub struct Image<'a> {
 }
 
 impl<'a> Image<'a> {
-    // The image of a header whose contents are in order.
+    // The image of a header whose contents are in order. An `Option` and no `TryFrom`: there is one way to fail, and the caller names its refusal.
     pub fn of(header: Header<'a>) -> Option<Image<'a>>
         ensures { MatchOption result (contents_ok header.entry.bytes.now ≡ false) (λ image. (image.bytes ≡ header.entry.bytes) × (contents_ok header.entry.bytes.now ≡ true)) }
     {

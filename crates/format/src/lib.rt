@@ -46,7 +46,7 @@ pub enum Refusal {
 // What a check answers.
 pub type Verdict = Result<(), Refusal>;
 
-// The paper's number of an answer.
+// The paper's number of an answer. A function and no `From`: `Verdict` is a `Result`, whose conversions are not this crate's to write.
 pub fn number(v: Verdict) -> u16
     ensures { result ≡ number_of v }
 {
@@ -65,7 +65,7 @@ pub fn number(v: Verdict) -> u16
     }
 }
 
-// The record that an answer carries.
+// The record that an answer carries, 0 where there is none: C packs it beside the number.
 pub fn record(v: Verdict) -> u16
     ensures { result ≡ record_of v }
 {

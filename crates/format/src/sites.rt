@@ -17,7 +17,8 @@ fn site_ok(last: u16, x: Site) -> bool
     (last < x.name) & s.dominates(c)
 }
 
-// The first bad site.
+// The first bad site. The names are taken to start from 0, so that the first is not 0 either and needs no case of its own. Each kind of record has
+// a loop of its own: what is carried from one to the next, and asked of those before, differs.
 pub fn first_bad_site(sites: &[u8]) -> Option<usize>
     ensures { result ≡ first_failing (site_ok (sites_in sites.now)) (length (sites_in sites.now)) }
 {

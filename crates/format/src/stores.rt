@@ -28,7 +28,7 @@ fn form_ok(x: Row) -> bool
     count_ok(x.count) && fields_ok(x.count, x.fields)
 }
 
-// The first bad row of a net of so many sites.
+// The first bad row of a net of so many sites. A loop, since `place_ok` asks that the rows so far are good, which no closure of `find` is told.
 pub fn first_bad_row(rows: &[u8], sites: usize) -> Option<usize>
     ensures { result ≡ first_failing (row_ok sites (rows_in rows.now)) (length (rows_in rows.now)) }
 {

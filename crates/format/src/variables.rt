@@ -26,7 +26,8 @@ pub struct GoodFields {
 }
 
 impl GoodFields {
-    // The variables of those with this tag, of variables used or bound.
+    // The variables of those with this tag, of variables used or bound. Each by itself: the closure of a `fold` would have to be told that each is one
+    // of the eight.
     #[tactic(auto, using(crate::proofs::Binding::set_steps))]
     fn set(self, tag: Tag) -> u8
         requires { (0 < tag_code tag) × (tag_code tag ≤ 2) }
@@ -36,7 +37,7 @@ impl GoodFields {
         bit(tag, f[0]) | (bit(tag, f[1]) | (bit(tag, f[2]) | bit(tag, f[3])))
     }
 
-    // Whether no two bind one variable.
+    // Whether no two bind one variable: each pair once, which no chain says plainer.
     #[tactic(auto, using(crate::proofs::Binding::apart_steps))]
     fn bound_once(self) -> bool
         ensures { result ≡ apart 2 self.fields }

@@ -25,7 +25,8 @@ impl Level {
     // The level that dominates every level.
     pub const TOP: Level = Level { code: 65535 };
 
-    // Whether this level dominates the other: by rank, and by the mask of the other's categories.
+    // Whether this level dominates the other: by rank, and by the mask of the other's categories. No `PartialOrd`: two levels need not compare, and
+    // the paper's word is "dominates".
     #[tactic(auto, unfolding(crate::specs::Level::dominates))]
     pub fn dominates(self, other: Level) -> bool
         ensures { result ≡ dominates self.code other.code }

@@ -6,7 +6,8 @@ ghost use Rattle.std.specs.Prelude.{◌+◌, ◌*◌, ◌≤◌, length, [], ◌
 ghost use Rattle.lines.specs.Lines.{decimal, spaced, line};
 ghost use Rattle.lines.specs.Pages.{Adds};
 
-// Lent bytes, filled up to byte `at`.
+// Lent bytes, filled up to byte `at`: `farmstep` fills what it is lent and cannot fail, as a `String` can and `fmt::Write` does. Each method asks for the
+// room of its own text, so no one fact of the page would do for all.
 #[derive(Drop)]
 pub struct Page<'a> {
     pub bytes: &'a mut [u8],

@@ -11,7 +11,7 @@ ghost use Rattle.monitor.specs.Plan.{room_in};
 use format::{Image, Kind, STORE_LIMIT};
 use net::{Record, Row, Site, count, nth};
 
-// The bytes of an accepted image.
+// The bytes of an accepted image. That a site or a row is there is the bound of an index, as in `rulebook::owner_ok`.
 #[derive(Clone, Copy)]
 pub struct Accepted<'a> {
     pub bytes: &'a [u8],

@@ -60,7 +60,7 @@ fn loses(x: Site) -> Site
     }
 }
 
-// The process with its history joined with what a reader meets.
+// The process with its history joined with what a reader meets. `marked` sets HO and this HS: a field's name is no parameter.
 fn informed(x: Site, o: u16, ho: u16) -> Site
     ensures { result ≡ informed o ho x }
 {
@@ -70,7 +70,7 @@ fn informed(x: Site, o: u16, ho: u16) -> Site
     }
 }
 
-// Writes the record of site i.
+// Writes the record of site i. A site's number and its record stay two: where memory has it, and what it is to be.
 fn write_site(memory: &mut [u8], i: usize, x: Site)
     requires { 44 + 32 * i + 32 ≤ length memory.old }
     ensures { memory.new ≡ splice memory.old (44 + 32 * i) (site_bytes x) }
@@ -86,7 +86,7 @@ pub struct Rows {
 }
 
 impl Rows {
-    // Those that a header says.
+    // Those that a header says. No `From`: it picks two of a header's numbers out and turns nothing into another form.
     fn of(header: Header<'_>) -> Rows
         ensures { (result.base ≡ offset_in header.entry.bytes.now 5) × (result.count ≡ count_in header.entry.bytes.now 5) }
     {
@@ -160,7 +160,8 @@ pub(crate) fn read_get(image: Accepted<'_>, act: &Act, k: usize) -> Site
     informed(advance(x, vars), y.o, y.ho)
 }
 
-// The target of a put: with room its history is joined with what the writer brings, else it has lost a row.
+// The target of a put: with room its history is joined with what the writer brings, else it has lost a row. `room` says
+// what becomes of the store: c and hs are there either way, so this is no `Option`.
 fn changed(y: Site, room: bool, c: u16, hs: u16) -> Site
     ensures { result ≡ cond room (marked c hs y) (loses y) }
 {

@@ -27,6 +27,7 @@ fn resolved(x: Operand, vars: &[u16; 8]) -> Operand
     }
     Operand {
         tag: u16::from(Tag::Name),
+        // 0 is unset in the image's own words, so there is no `Option`
         value: vars.get(usize::from(x.value)).copied().unwrap_or(0),
     }
 }
@@ -57,6 +58,7 @@ impl Net<'_> {
         ensures { result ≡ chosen act.now (state_in self.now.image.bytes.now).rows }
     {
         let rows = self.image.body(Kind::Rows);
+        // the stretch that `rows_at` of policy gives of its tables: there are none here to ask
         let start = usize::from(self.starts[act.target]);
         let end = usize::from(self.starts[act.target + 1]);
         (start..end).find(|&k| policy::fits(act.action, nth(rows, k)))

@@ -143,6 +143,7 @@ pub fn run(memory: &mut [u8], steps: &[u8], answers: &mut [u8]) -> Result<(), Ru
     let image = held(memory).ok_or(RunError::NoNet)?;
     let starts = image.starts();
     let mut net = HeldNet { memory, starts };
+    // by number: of what an adapter of `iter_mut`, such as `zip`, writes a proof knows nothing
     for (i, &site) in steps.iter().enumerate() {
         answers[i] = u8::from(net.step(usize::from(site)));
     }

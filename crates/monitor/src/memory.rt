@@ -13,7 +13,8 @@ use net::Capability;
 use policy::Act;
 use stepping::Answer;
 
-// Net memory that holds a net, and where the rows of each site start.
+// Net memory that holds a net, and where the rows of each site start. `same_memory` stands with each method: it is about a change, which no ghost
+// field can tell.
 #[derive(Drop)]
 pub struct HeldNet<'a> {
     pub memory: &'a mut [u8],

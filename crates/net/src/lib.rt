@@ -35,7 +35,7 @@ pub trait Record: Copy {
     ghost wide: { 0 < WIDTH };
 }
 
-// Record number k of a table.
+// Record number k of a table. Tables are gone over by number: no function can answer `impl Iterator`, and records are read by value.
 pub fn nth<R: Record>(table: &[u8], k: usize) -> R
     requires { R.WIDTH * k + R.WIDTH ≤ length table.now }
     ensures { result ≡ R.read_of table.now (R.WIDTH * k) }
@@ -152,7 +152,7 @@ impl Record for Site {
 }
 
 impl Site {
-    // The 32 bytes of a site's record.
+    // The 32 bytes of a site's record. The eight variables are written out: no method puts an array together from two.
     pub fn bytes(self) -> [u8; 32]
         ensures { result ≡ site_bytes self }
     {

@@ -41,7 +41,7 @@ fn named(sites: &[u8], site: usize) -> Operand
     }
 }
 
-// Whether the aspect's patterns fit the action's fields.
+// Whether the aspect's patterns fit the action's fields, by number, as `fits` goes.
 fn fields_fit(aspect: &[u8; 32], action: &Action) -> bool
     ensures { result ≡ fit_all pattern_fits (take action.now.count (read_aspect aspect.now 0).fields) (fields_of action.now) }
 {

@@ -1,5 +1,6 @@
 // The two evaluators of the rules of the house: `holds` of conditions, `advises` of recommendations. They call each other on lower node
-// numbers. A node is its own 24 bytes: each reads its kind, and then only the fields that this kind has; a child that cannot change
+// numbers. A node is its own 24 bytes, and a child a number in the table, as the image has them, since a tree of
+// boxes would need a heap: each reads its kind, and then only the fields that this kind has; a child that cannot change
 // the answer is not looked at. A node that is not below its parent, and one of the other sort, is false or 0: no accepted table has one.
 ghost use Rattle.std.specs.Prelude.{◌≡◌, ◌≤◌, length, get_or};
 ghost use Rattle.level.specs.Level.{dominates};

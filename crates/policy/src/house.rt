@@ -42,7 +42,8 @@ fn all_grant(aspects: &[[u8; 32]], case: &Case<'_>) -> bool
         .all(|aspect| belnap::grants(gives(aspect, case)))
 }
 
-// Whether the policy of a site, its own aspects gathered, grants the action.
+// Whether the policy of a site, its own aspects gathered, grants the action. The aspects are lent beside the tables, so that they are in order is
+// asked here and not by `Tables`.
 pub fn policy_grants(site: usize, aspects: &[u8], case: &Case<'_>) -> bool
     requires { (site + 1 < 2 ^ 64) × Ordered 32 aspects.now }
     ensures { let t = case.now.tables in result ≡ grants (policy (nodes_in t.nodes.now) (sites_in t.sites.now) (rows_in t.rows.now) case.now.act site (aspects_in aspects.now)) }

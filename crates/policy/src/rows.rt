@@ -21,7 +21,8 @@ fn asks(p: Operand, value: u16, vars: &[u16; 8]) -> bool
     p.has(Tag::Any) || known(meant(p, vars), value)
 }
 
-// Whether a row is wanted by a test node: it has the count, and each value fits.
+// Whether a row is wanted by a test node: it has the count, and each value fits. node and vars stay two: the variables are one aspect's, the node
+// another at each step.
 fn wanted(row: &[u8; 10], node: &[u8; 24], vars: &[u16; 8]) -> bool
     ensures { result ≡ wanted vars.now (read_node node.now 0) (read_row row.now 0) }
 {

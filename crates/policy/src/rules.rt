@@ -92,6 +92,7 @@ fn level(term: Term, terms: &[u16; 8]) -> Level
 fn rule_gives(rule: &Rule, capability: u8, terms: &[u16; 8]) -> u8
     ensures { result ≡ rule_gives capability terms.now rule.now }
 {
+    // the capability is the record's own byte: `rule_gives` of specs/ answers for every number
     if u8::from(rule.capability) != capability {
         return belnap::UNDECIDED;
     }

@@ -33,7 +33,7 @@ pub fn bound(action: Action, row: Row, vars: [u16; 8]) -> [u16; 8]
     bound
 }
 
-// Number i of eight; 0 from 8 on.
+// Number i of eight; 0 from 8 on, which is unset in the image's own words.
 pub fn element(list: &[u16; 8], i: u16) -> u16
     ensures { result ≡ get_or list.now i 0 }
 {

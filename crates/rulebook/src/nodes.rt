@@ -111,7 +111,8 @@ fn child_depth<S: Sort>(nodes: &[u8], row: &[u8], j: u16) -> Option<u8>
     }
 }
 
-// The depth of what stands in this part of the node after the row, 0 of what is no child; none where it is bad.
+// The depth of what stands in this part of the node after the row, 0 of what is no child; none where it is bad. That the row is no longer than
+// the table is the bound of an index, as in `owner_ok`.
 fn part_depth(nodes: &[u8], places: Places<'_>, row: &[u8], part: Part, v: u16) -> Option<u8>
     requires { 24 * length row.now ≤ length nodes.now }
     ensures { result ≡ part_depth (names (sites_in places.entry.sites.now)) (nodes_in nodes.now) row.now part v }

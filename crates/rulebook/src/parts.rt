@@ -71,7 +71,8 @@ impl Tags {
         if j < n { self.allow(x) } else { is_unused(x) }
     }
 
-    // Whether the first n of four operands are good and the others not used.
+    // Whether the first n of four operands are good and the others not used. Written out: a chain would carry j as a usize beside a count that is a
+    // u8, and is no plainer.
     pub fn allow_first(self, n: u8, l: [Operand; 4]) -> bool
         ensures { result ≡ operands_ok (tags_of self.binds self.any self.binder) n l }
     {
@@ -97,7 +98,7 @@ pub fn is_alone(tag: u16, x: Operand, l: [Operand; 4], from: usize) -> bool
     x.tag != tag || !l.iter().skip(from).any(|y| speaks_of(tag, x.value, *y))
 }
 
-// Whether no two of four operands, with this tag, speak of one variable.
+// Whether no two of four operands, with this tag, speak of one variable: each with those after it, which a chain would say no plainer.
 pub fn once_each(tag: u16, l: [Operand; 4]) -> bool
     ensures { result ≡ once_each tag l }
 {
@@ -118,7 +119,7 @@ pub fn capability_ok(c: u8) -> bool
     Capability::try_from(c).is_ok()
 }
 
-// The owner before record k, 0 before the first.
+// The owner before record k, 0 before the first: no owner is below 0, so the first record needs no case of its own.
 #[tactic(auto, using(crate::proofs::Owners::before_is))]
 fn owner_before<R: Record>(table: &[u8], k: usize) -> u8
     requires { R.WIDTH * k + R.WIDTH ≤ length table.now }

@@ -12,6 +12,7 @@ ghost use Rattle.stepper.specs.Farmstep.{input_ok, image_of, steps_of, step_line
 ghost use Rattle.stepper.specs.Bodies.{site_lines_of};
 
 use lines::Page;
+use monitor::RunError;
 use net::{Row, Site};
 
 // The most bytes of an input.
@@ -105,7 +106,7 @@ fn ran(page: &mut Page, memory: &mut [u8], steps: &[u8])
 {
     let mut answers = io::buffer();
     let Ok(()) = monitor::run(memory, steps, &mut answers) else {
-        return page.line(b"run", &[7]);
+        return page.line(b"run", &[u64::from(u8::from(RunError::Long))]);
     };
     step_lines(page, steps, &answers);
     net_lines(page, memory);

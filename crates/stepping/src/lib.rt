@@ -4,6 +4,7 @@
 ghost use Rattle.std.specs.Prelude.{◌≡◌};
 ghost use Rattle.stepping.specs.Step.{number_of};
 
+// Not a `Result`: theorems of promises/ and the bytes of a run speak of granted as of the other answers.
 #[derive(Clone, Copy, PartialEq, Eq, Debug)]
 pub enum Answer {
     Granted,

@@ -1,5 +1,5 @@
 // Each operation: its arguments are read, the call is made, and the line of what it gave back is printed. Memory is the first m bytes of
-// a buffer, and its sum is that of the whole buffer.
+// a buffer, and its sum is that of the whole buffer. Each takes those of rt, script and memory that it uses, so the three are no struct.
 ghost use Rattle.std.specs.Prelude.{◌≤◌, length};
 
 use crate::script::{Script, Stop};

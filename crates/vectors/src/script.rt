@@ -1,5 +1,5 @@
 // What is left of a script, from whose front the operations and their arguments are read. Sizes are made by `as`, since there is no `From` to usize
-// from u32 and u64.
+// from u32 and u64. That the rest gets no longer is said of each call: it is about a change, which no ghost field can tell.
 ghost use Rattle.std.specs.Prelude.{◌≤◌, ◌<◌, length, OnOk, IfOk};
 
 use std::io;
@@ -53,7 +53,7 @@ impl<'a> Script<'a> {
         Ok(byte)
     }
 
-    // The next u16.
+    // The next u16. One method a number: `from_le_bytes` belongs to no trait that a generic one could ask for.
     pub fn word(&mut self) -> Result<u16, Stop>
         ensures { length self.new.rest.now ≤ length self.old.rest.now }
     {

@@ -1,5 +1,6 @@
 // Numbers in lent bytes, little-endian; stretches of bytes copied, cleared, moved, put in and taken out; and the search in a table
-// whose records stand in the order of their first byte. Readers ask for their place and test nothing; what a function leaves of lent
+// whose records stand in the order of their first byte. Readers ask for their place and test nothing, and a slice and
+// a place stay two parameters, as in a slice's own index; what a function leaves of lent
 // bytes is one list in its contract.
 #![tactic(auto)]
 
@@ -16,7 +17,7 @@ pub fn word(s: &[u8], at: usize) -> u16
     u16::from_le_bytes([s[at], s[at + 1]])
 }
 
-// The same as a size.
+// The same as a size: one calls the other, and a generic in the number would be no plainer.
 pub fn size_at(s: &[u8], at: usize) -> usize
     requires { at + 1 < length s.now }
     ensures { (result ≡ u16_at s.now at) × (result < 65536) }
@@ -24,7 +25,7 @@ pub fn size_at(s: &[u8], at: usize) -> usize
     usize::from(word(s, at))
 }
 
-// The u32 at byte `at`, as a size.
+// The u32 at byte `at`, as a size. Two sizes, as in `u32_at`: what `u32::from_le_bytes` gives becomes a size only by `as`.
 #[tactic(auto, unfolding(crate::specs::Bytes::u32_at))]
 pub fn long_at(s: &[u8], at: usize) -> usize
     requires { at + 3 < length s.now }
@@ -59,7 +60,7 @@ pub fn clear(mem: &mut [u8], from: usize, to: usize)
 }
 
 // Whether every byte is 0. There is no early exit, so that the loop takes many bytes at a time; it reads the two halves side by side, which
-// costs fewer instructions a byte than one stream, as a `fold` over the bytes does.
+// costs fewer instructions a byte than a `fold` over one stream, and by number, since the halves may differ by a byte.
 pub fn zeros(s: &[u8]) -> bool
     ensures { result ≡ all_zero s.now }
 {
@@ -120,7 +121,7 @@ pub fn remove(mem: &mut [u8], at: usize, end: usize, w: usize)
 }
 
 // How many of the first n records of width w begin with a byte below `bound`, where these bytes never fall: found by halving. The loop is
-// written out, since `partition_point` takes a slice of elements whose width is known when the program is compiled, and w isn't.
+// written out: `partition_point` takes records whose width is a constant, and this takes any w.
 pub fn count_below(s: &[u8], w: usize, n: usize, bound: usize) -> usize
     requires { (w * n ≤ length s.now) × (1 < w) × ((i j : ℕ) → i ≤ j → j < n → get_or s.now (w * i) 0 ≤ get_or s.now (w * j) 0) }
     ensures { (result ≡ count_below s.now w n bound) × (result ≤ n) }

@@ -13,7 +13,7 @@ pub returns-in_default : goal.returns-in_default
 returns-in_default c =
     adds_same
     (long_text c.args.memory.now c.args.steps.now c.buffer-answers.result c.requires.0 (omega arith) c.run.ensures.value (λ q. c.in_default.not-Ok tt q))
-    c.line.ensures
+    (let seven : c.from-in_default.result ≡ 7 = search rules in rw seven at c.line.ensures)
 
 pub step_lines-requires : goal.step_lines-requires
 step_lines-requires c =
