@@ -203,7 +203,8 @@ pub struct Image<'a> {
 impl<'a> Image<'a> {
     // The image of a header whose contents are in order. An `Option` and no `TryFrom`: there is one way to fail, and the caller names its refusal.
     pub fn of(header: Header<'a>) -> Option<Image<'a>>
-        ensures { MatchOption result (contents_ok header.entry.bytes.now ≡ false) (λ image. (image.bytes ≡ header.entry.bytes) × (contents_ok header.entry.bytes.now ≡ true)) }
+        ensures { MatchOption result (contents_ok header.entry.bytes.now ≡ false)
+            (λ image. (image.bytes ≡ header.entry.bytes) × (contents_ok header.entry.bytes.now ≡ true)) }
     {
         if header.contents_ok() {
             Some(Image {
