@@ -333,13 +333,28 @@ impl Row {
     }
 }
 
-// The number of the site that has a name, where the names rise: found by the library's halving.
+// The number of the site that has a name, where the names rise: found by halving. A loop of its own, since each search of the library goes through
+// all the halves though it has met the name, and every test node of a rule asks for its place.
 pub fn place_of(sites: &[u8], wanted: u16) -> Option<usize>
     requires { Rising (names (sites_in sites.now)) }
     ensures { result ≡ place_of (names (sites_in sites.now)) wanted }
 {
-    let (sites, _) = sites.as_chunks::<32>();
-    sites
-        .binary_search_by_key(&wanted, |site| word(site, 0))
-        .ok()
+    let mut base = 0;
+    let mut size = count::<Site>(sites);
+    while size > 1 {
+        let half = size / 2;
+        let middle = base + half;
+        let name = word(sites, Site::WIDTH * middle);
+        if name == wanted {
+            return Some(middle);
+        }
+        if name < wanted {
+            base = middle;
+        }
+        size -= half;
+    }
+    if size == 1 && word(sites, Site::WIDTH * base) == wanted {
+        return Some(base);
+    }
+    None
 }

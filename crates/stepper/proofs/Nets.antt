@@ -58,7 +58,7 @@ module _ (m : List ℕ) (e : holds_net m ≡ true) where
       }
 
   -- its bodies are handed out, and have the net's sites and rows
-  body_saved : (k : ℕ) → 1 ≤ k → k ≤ 5 → body_of (image_in m) k ≡ body_in (image_in m) k
+  pub body_saved : (k : ℕ) → 1 ≤ k → k ≤ 5 → body_of (image_in m) k ≡ body_in (image_in m) k
   unfolding body_of handed_out
   body_saved k a b = rw ((holds_parts m e).accepted, le-leb 1 k a, le-leb k 5 b)
 

@@ -20,9 +20,9 @@ use Rattle.net.specs.Records.{row_width, read_row}
 use Rattle.net.specs.Net.{site_at, held}
 use Rattle.net.specs.Image.{sites_in, rows_in}
 use Rattle.net.specs.declared.Site.{Site}
-use Rattle.lines.specs.Lines.{lines}
+use Rattle.lines.specs.Lines.{spaced, line, lines}
 use Rattle.lines.proofs.Texts.{decimal-length, line-length, lines-length}
-use Rattle.stepper.specs.Farmstep.{step_line, site_line, input_ok, image_of, steps_of}
+use Rattle.stepper.specs.Farmstep.{input_line, step_line, site_line, input_ok, image_of, steps_of}
 
 -- ---- rows held
 -- as many of the numbers from a on pass a test as of a table's records, if each number passes it with its record
@@ -105,3 +105,8 @@ module _ (s : List ℕ) where
         rw (← is, ← e) h.1,
         rw (← is, ← e) h.2,
       )
+
+-- what stands for an input that is not in order: the word and the line's end
+pub input_line_lem : input_line ≡ 105 ∷ 110 ∷ 112 ∷ 117 ∷ 116 ∷ 10 ∷ []
+unfolding line spaced
+input_line_lem = refl

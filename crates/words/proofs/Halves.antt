@@ -14,7 +14,7 @@ use borrow.Author.Tests.{ne_eqb}
 use Rattle.words.proofs.Lists.{all_append}
 use Rattle.words.specs.Bytes.{stretch, all_zero}
 
-stretch-cons : (k e : ℕ) (m : List ℕ) → k < e → k < length m → stretch k e m ≡ get_or m k 0 ∷ stretch (suc k) e m
+pub stretch-cons : (k e : ℕ) (m : List ℕ) → k < e → k < length m → stretch k e m ≡ get_or m k 0 ∷ stretch (suc k) e m
 stretch-cons k e m h l =
     let q : e - k ≡ suc (e - suc k) = omega arith in
     rw (q, drop-cons m k 0)

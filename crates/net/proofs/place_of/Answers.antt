@@ -1,17 +1,8 @@
--- `place_of` finds what the library's search in a sorted list finds. The place that it answers has the wanted name; where it answers none,
--- the names before a place are smaller and those from it on are larger. Names rise, so no other site has the name of one. Assumes nothing.
-use Rattle.std.proofs.Common.{rules, ◌≡◌, sym, ap, ◌∙◌, Bool, true, not, List, [], ℕ, zero, suc, ◌+◌, ◌*◌, ◌/◌, ◌≤◌, ◌<◌, le_refl, lt_irrefl, arith, eq-eqb, ne_eqb, length, get_or, drop, None, Some, Ok, Err, Result}
+-- `place_of` finds a site by halving. Where a name is the wanted one, the names before it are smaller and so are others; where one name is
+-- left, each other is smaller or larger than the wanted one.
+use Rattle.std.proofs.Common.{◌≡◌, sym, ap, ◌∙◌, Bool, true, not, List, ℕ, ◌+◌, ◌*◌, ◌/◌, ◌-◌, ◌≤◌, ◌<◌, le_refl, lt_irrefl, eq-or-lt_of_le, ⊎_elim, arith, eq-eqb, ne_eqb, length, get_or, None, Some}
 use lib.Dec.{eqb}
 use lib.ListN.{length-map, get_or-map}
-use native.Mathlib.Nat.{zero-add, mul-zero}
-use Rattle.std.specs.Simd.{first_chunks}
-use Rattle.std.specs.List.Sorted.{IsSearchInRange, IsBinarySearchResult, IsNonDecreasingBy}
-use Rattle.std.specs.Ordering.{nat_cmp, ordering_index}
-use Rattle.std.specs.Result.{result_ok}
-use Rattle.std.proofs.lemmas.Cmp.{ranked}
-use Rattle.std.proofs.lemmas.List.{get_or-take, get_or-drop}
-use Rattle.std.proofs.lemmas.List.Sorted.{answers_always, IsNonDecreasingBy-from_default}
-use Rattle.std.proofs.lemmas.Bool.Decides.{nat_tests}
 use Rattle.words.specs.Bytes.{u16_at}
 use Rattle.words.proofs.First.{first_is, found_here, found_none}
 use Rattle.words.proofs.Tables.{table_length, table_at}
@@ -19,6 +10,7 @@ use Rattle.net.specs.Records.{site_width, no_site, read_site}
 use Rattle.net.specs.Net.{names, place_of, Rising}
 use Rattle.net.specs.Image.{sites_in}
 use Rattle.net.proofs.place_of.Goals as goal
+use Rattle.net.proofs.place_of.Goals.{then-name-wanted-2, else-name-wanted-2, else-size-eq1-via-then-size-eq1+else-word-wanted, else-size-eq1-via-else-size-eq1}
 
 -- the name of site k stands at the front of its record
 name-at : (s : List ℕ) (k : ℕ) → k < length s / 32 → get_or (names (sites_in s)) k 0 ≡ u16_at s (32 * k)
@@ -27,14 +19,6 @@ name-at s k h = get_or-map (λ x. x.name) (sites_in s) k no_site ∙ ap (λ x. x
 
 names-length : (s : List ℕ) → length (names (sites_in s)) ≡ length s / 32
 names-length s = length-map (sites_in s) (λ x. x.name) ∙ table_length read_site site_width s
-
--- byte j of record k, of the records one by one
-byte-at : (n k : ℕ) (s : List ℕ) (i j : ℕ) (d : List ℕ) → i < k → j < n → get_or (get_or (first_chunks n k s) i d) j 0 ≡ get_or s (n * i + j) 0
-byte-at n zero s i j d h l = absurd (let z : ⊥ = omega arith in z)
-byte-at n (suc k) s zero j d h l = rw (mul-zero, zero-add) (get_or-take n s j 0 l)
-byte-at n (suc k) s (suc i) j d h l =
-    let e : n * suc i + j ≡ n + (n * i + j) = omega arith in
-    rw e (byte-at n k (drop n s) i j d (omega arith) l ∙ get_or-drop n s (n * i + j) 0)
 
 -- site k has another name
 abbrev other : List ℕ → ℕ → ℕ → Bool
@@ -64,42 +48,55 @@ module _ (s : List ℕ) (wanted : ℕ) (rising : Rising (names (sites_in s))) wh
       found_none (λ j. eqb (get_or (names (sites_in s)) j 0) wanted) n
       (first_is (other s wanted) n n (le_refl n) (λ j b. let c : j < length s / 32 = rw (names-length s) at b in differs j c (d j c)) (λ b. absurd (lt_irrefl n b)))
 
-  -- the records one by one, and the name at the front of each
-  abbrev records : List (List ℕ)
-  records = first_chunks 32 (length s / 32) s
+-- the upper half begins at the middle
+upper : (base size k : ℕ) → base + (size - size / 2) ≤ k → base + size / 2 ≤ k
+upper base size k h = omega arith
 
-  front : (k : ℕ) (d : List ℕ) → k < length s / 32 → u16_at (get_or records k d) 0 ≡ u16_at s (32 * k)
-  unfolding u16_at
-  front k d h =
-      let e : 32 * k + 0 ≡ 32 * k = omega arith in
-      rw (byte-at 32 (length s / 32) s k 0 d h (omega arith), byte-at 32 (length s / 32) s k 1 d h (omega arith), e)
+-- where at most one place is left, a number is below it, beyond it, or that place
+apart : (k base size : ℕ) → size ≤ 1 → (k < base → ⊥) → (base + size ≤ k → ⊥) → (k ≡ base → size ≡ 1 → ⊥) → ⊥
+apart k base size most f g d = d (omega (arith, f, g)) (omega (arith, f, g))
 
-  -- compared with the wanted name, they rise
-  ordered : length records ≡ length s / 32 → IsNonDecreasingBy (λ x. ordering_index (nat_cmp (u16_at x 0) wanted)) records
-  ordered n =
-      IsNonDecreasingBy-from_default (λ x. ordering_index (nat_cmp (u16_at x 0) wanted)) records [] (λ i j le l.
-      let hi = front i [] (omega arith) in
-      let hj = front j [] (omega arith) in
-      let up : u16_at (get_or records i []) 0 ≤ u16_at (get_or records j []) 0 =
-      rw (hi, hj) (grind (arith, rises i j, λ (same : i ≡ j). ap (λ k. u16_at s (32 * k)) same)) in
-      grind (arith, nat_tests))
+pub returns-then-name-wanted : goal.returns-then-name-wanted
+returns-then-name-wanted c =
+    let l = c.loop-size in
+    sym (here c.args.sites.now c.args.wanted c.requires (l.base + l.size / 2) (omega arith) (sym c.word-name.ensures ∙ c.if-name-wanted.true))
 
-  -- what the search answers is the place
-  searched : (r : Result ℕ ℕ) → length records ≡ length s / 32 → IsSearchInRange r (length records)
-      → IsBinarySearchResult (λ x. nat_cmp (u16_at x 0) wanted) records r → result_ok r ≡ place_of (names (sites_in s)) wanted
-  searched (Ok at) n within equal = let h : at < length s / 32 = omega arith in sym (here at h (sym (front at [] h) ∙ ranked _ wanted _ (sym (equal []))))
-  searched (Err at) n within parted =
-      let p = parted (ordered n) in
-      sym (nowhere (λ k h e.
-      let f = front k [] h in
-      let before : k < at → ⊥ = λ l. omega (arith, ranked _ wanted _ (sym (p.0 k [] (omega arith) l))) in
-      let after : at ≤ k → ⊥ = λ l. omega (arith, ranked _ wanted _ (sym (p.1 k [] l (omega arith)))) in
-      grind (arith, before, after)))
+pub loop-size-preserved : goal.loop-size-preserved
+loop-size-preserved c =
+    let l = c.loop-size in
+    let m = l.base + l.size / 2 in
+    let up = rises c.args.sites.now c.args.wanted c.requires in
+    elim c.if-name-wanted-2.branch [
+      | then-name-wanted-2 w ↦
+          let b : c.if-name-wanted-2.base ≡ m = w.base-is in
+          let e : u16_at c.args.sites.now (32 * m) < c.args.wanted = rw (← c.word-name.ensures) w.if-name-wanted-2.true in
+          record {
+            in_range = omega arith;
+            smaller = λ k h. omega (arith, up k m (omega arith) (omega arith));
+            larger = λ k h d. l.invariant.larger k (omega arith) d;
+          }
+      | else-name-wanted-2 w ↦
+          let b : c.if-name-wanted-2.base ≡ l.base = w.base-is in
+          let e : c.args.wanted < u16_at c.args.sites.now (32 * m) = rw (← c.word-name.ensures) (omega (arith, w.if-name-wanted-2.false, c.if-name-wanted.false)) in
+          record {
+            in_range = omega arith;
+            smaller = λ k h. l.invariant.smaller k (omega arith);
+            larger = λ k h d. ⊎_elim (λ q. rw (← q) e) (λ r. omega (arith, up m k r d)) (eq-or-lt_of_le (upper l.base l.size k (omega arith)));
+          }
+    ]
+
+pub returns-then-word-wanted : goal.returns-then-word-wanted
+returns-then-word-wanted c =
+    let l = c.loop-size in
+    sym (here c.args.sites.now c.args.wanted c.requires l.base (omega arith) (sym c.word.ensures ∙ c.if-word-wanted.true))
 
 pub returns : goal.returns
 returns c =
-    let found = c.binary_search_by_key.ensures in
-    let cut = c.as_chunks.ensures in
-    let by_name = found.position (λ x. u16_at x 0) (answers_always _ _ _ (λ f a r g called. search rules)) in
-    c.ok.ensures.value
-    ∙ searched c.args.sites.now c.args.wanted c.requires _ (ap length (sym cut.front) ∙ cut.front_len) (rw (← cut.front) found.bound) (rw (← cut.front) by_name)
+    let l = c.loop-size in
+    let none = nowhere c.args.sites.now c.args.wanted c.requires in
+    let others = λ (k : ℕ) (h : k < length c.args.sites.now / 32) (e : u16_at c.args.sites.now (32 * k) ≡ c.args.wanted) (d : k ≡ l.base → l.size ≡ 1 → ⊥).
+    apart k l.base l.size c.loop-size-test.false (λ b. omega (arith, l.invariant.smaller k b)) (λ b. omega (arith, l.invariant.larger k b h)) d in
+    elim c.else-size-eq1.branch [
+      | else-size-eq1-via-then-size-eq1+else-word-wanted w ↦ sym (none (λ k h e. others k h e (λ q z. w.if-word-wanted.false (w.word.ensures ∙ rw (← q) e))))
+      | else-size-eq1-via-else-size-eq1 w ↦ sym (none (λ k h e. others k h e (λ q z. w.if-size-eq1.false z)))
+    ]
