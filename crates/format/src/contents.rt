@@ -187,9 +187,9 @@ impl Header<'_> {
         (size_at(self.bytes, 2) == 5)
             && (self.entry_ok(Kind::Sites)
                 && (self.entry_ok(Kind::Nodes)
-                    && (self.entry_ok(Kind::Aspects)
-                        && (self.entry_ok(Kind::Actions)
-                            && (self.entry_ok(Kind::Rows) && (self.end() == self.bytes.len()))))))
+                    & (self.entry_ok(Kind::Aspects)
+                        & (self.entry_ok(Kind::Actions)
+                            & (self.entry_ok(Kind::Rows) & (self.end() == self.bytes.len()))))))
     }
 }
 

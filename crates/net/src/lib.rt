@@ -341,20 +341,24 @@ pub fn place_of(sites: &[u8], wanted: u16) -> Option<usize>
 {
     let mut base = 0;
     let mut size = count::<Site>(sites);
+    if size == 0 {
+        return None;
+    }
     while size > 1 {
         let half = size / 2;
         let middle = base + half;
         let name = word(sites, Site::WIDTH * middle);
-        if name == wanted {
-            return Some(middle);
-        }
-        if name < wanted {
+        if name <= wanted {
+            if name == wanted {
+                return Some(middle);
+            }
             base = middle;
         }
         size -= half;
     }
-    if size == 1 && word(sites, Site::WIDTH * base) == wanted {
-        return Some(base);
+    if word(sites, Site::WIDTH * base) == wanted {
+        Some(base)
+    } else {
+        None
     }
-    None
 }

@@ -10,7 +10,7 @@ use Rattle.net.specs.Records.{site_width, no_site, read_site}
 use Rattle.net.specs.Net.{names, place_of, Rising}
 use Rattle.net.specs.Image.{sites_in}
 use Rattle.net.proofs.place_of.Goals as goal
-use Rattle.net.proofs.place_of.Goals.{then-name-wanted-2, else-name-wanted-2, else-size-eq1-via-then-size-eq1+else-word-wanted, else-size-eq1-via-else-size-eq1}
+use Rattle.net.proofs.place_of.Goals.{then-name-wanted+else-name-wanted-2, else-name-wanted}
 
 -- the name of site k stands at the front of its record
 name-at : (s : List ℕ) (k : ℕ) → k < length s / 32 → get_or (names (sites_in s)) k 0 ≡ u16_at s (32 * k)
@@ -53,32 +53,37 @@ upper : (base size k : ℕ) → base + (size - size / 2) ≤ k → base + size /
 upper base size k h = omega arith
 
 -- where at most one place is left, a number is below it, beyond it, or that place
-apart : (k base size : ℕ) → size ≤ 1 → (k < base → ⊥) → (base + size ≤ k → ⊥) → (k ≡ base → size ≡ 1 → ⊥) → ⊥
-apart k base size most f g d = d (omega (arith, f, g)) (omega (arith, f, g))
+apart : (k base size : ℕ) → size ≤ 1 → (k < base → ⊥) → (base + size ≤ k → ⊥) → (k ≡ base → ⊥) → ⊥
+apart k base size most f g d = d (omega (arith, f, g))
 
-pub returns-then-name-wanted : goal.returns-then-name-wanted
-returns-then-name-wanted c =
+pub returns-then-size-eq0 : goal.returns-then-size-eq0
+returns-then-size-eq0 c = sym (nowhere c.args.sites.now c.args.wanted c.requires (λ k h e. absurd (lt_irrefl k (omega (arith, c.count-size.ensures, c.if-size-eq0.true)))))
+
+pub returns-then-name-wanted-2 : goal.returns-then-name-wanted-2
+returns-then-name-wanted-2 c =
     let l = c.loop-size in
-    sym (here c.args.sites.now c.args.wanted c.requires (l.base + l.size / 2) (omega arith) (sym c.word-name.ensures ∙ c.if-name-wanted.true))
+    sym (here c.args.sites.now c.args.wanted c.requires (l.base + l.size / 2) (omega arith) (sym c.word-name.ensures ∙ c.if-name-wanted-2.true))
 
 pub loop-size-preserved : goal.loop-size-preserved
 loop-size-preserved c =
     let l = c.loop-size in
     let m = l.base + l.size / 2 in
     let up = rises c.args.sites.now c.args.wanted c.requires in
-    elim c.if-name-wanted-2.branch [
-      | then-name-wanted-2 w ↦
-          let b : c.if-name-wanted-2.base ≡ m = w.base-is in
-          let e : u16_at c.args.sites.now (32 * m) < c.args.wanted = rw (← c.word-name.ensures) w.if-name-wanted-2.true in
+    elim c.if-name-wanted.branch [
+      | then-name-wanted+else-name-wanted-2 w ↦
+          let b : c.if-name-wanted.base ≡ m = w.base-is in
+          let e : u16_at c.args.sites.now (32 * m) < c.args.wanted = rw (← c.word-name.ensures) (omega (arith, w.if-name-wanted.true, w.if-name-wanted-2.false)) in
           record {
+            one_left = omega arith;
             in_range = omega arith;
             smaller = λ k h. omega (arith, up k m (omega arith) (omega arith));
             larger = λ k h d. l.invariant.larger k (omega arith) d;
           }
-      | else-name-wanted-2 w ↦
-          let b : c.if-name-wanted-2.base ≡ l.base = w.base-is in
-          let e : c.args.wanted < u16_at c.args.sites.now (32 * m) = rw (← c.word-name.ensures) (omega (arith, w.if-name-wanted-2.false, c.if-name-wanted.false)) in
+      | else-name-wanted w ↦
+          let b : c.if-name-wanted.base ≡ l.base = w.base-is in
+          let e : c.args.wanted < u16_at c.args.sites.now (32 * m) = rw (← c.word-name.ensures) w.if-name-wanted.false in
           record {
+            one_left = omega arith;
             in_range = omega arith;
             smaller = λ k h. l.invariant.smaller k (omega arith);
             larger = λ k h d. ⊎_elim (λ q. rw (← q) e) (λ r. omega (arith, up m k r d)) (eq-or-lt_of_le (upper l.base l.size k (omega arith)));
@@ -90,13 +95,9 @@ returns-then-word-wanted c =
     let l = c.loop-size in
     sym (here c.args.sites.now c.args.wanted c.requires l.base (omega arith) (sym c.word.ensures ∙ c.if-word-wanted.true))
 
-pub returns : goal.returns
-returns c =
+pub returns-else-word-wanted : goal.returns-else-word-wanted
+returns-else-word-wanted c =
     let l = c.loop-size in
-    let none = nowhere c.args.sites.now c.args.wanted c.requires in
-    let others = λ (k : ℕ) (h : k < length c.args.sites.now / 32) (e : u16_at c.args.sites.now (32 * k) ≡ c.args.wanted) (d : k ≡ l.base → l.size ≡ 1 → ⊥).
-    apart k l.base l.size c.loop-size-test.false (λ b. omega (arith, l.invariant.smaller k b)) (λ b. omega (arith, l.invariant.larger k b h)) d in
-    elim c.else-size-eq1.branch [
-      | else-size-eq1-via-then-size-eq1+else-word-wanted w ↦ sym (none (λ k h e. others k h e (λ q z. w.if-word-wanted.false (w.word.ensures ∙ rw (← q) e))))
-      | else-size-eq1-via-else-size-eq1 w ↦ sym (none (λ k h e. others k h e (λ q z. w.if-size-eq1.false z)))
-    ]
+    sym (nowhere c.args.sites.now c.args.wanted c.requires
+    (λ k h e. apart k l.base l.size c.loop-size-test.false (λ b. omega (arith, l.invariant.smaller k b)) (λ b. omega (arith, l.invariant.larger k b h))
+    (λ q. c.if-word-wanted.false (c.word.ensures ∙ rw (← q) e))))

@@ -6,6 +6,7 @@ use Rattle.net.proofs.place_of.Given as goal
 
 abbrev pub invariant-loop-size : goal.invariant-loop-size
 invariant-loop-size l = record {
+  one_left : 0 < l.size;
   in_range : l.base + l.size ≤ length l.sites / 32;
   smaller : (k : ℕ) → k < l.base → u16_at l.sites (32 * k) < l.wanted;
   larger : (k : ℕ) → l.base + l.size ≤ k → k < length l.sites / 32 → l.wanted < u16_at l.sites (32 * k);
